@@ -1,0 +1,44 @@
+-- What the functions of this crate say of each other: patterns with their signs, and significands that stand for exact sizes.
+-- Nothing here is part of what rounding means. Definitions only.
+use mathlib.Core.Path.{_≡_}
+use Prim.Native.Nat.{ℕ, suc, _+_, _-_, _*_, _^_, _<_}
+use mathlib.Core.Bool.{Bool, cond}
+use lib.Dec.{ltb}
+use lib.Ieee.{toBits, binary64}
+use Rattle.wide.specs.Words.{jammed}
+use Rattle.rounding.specs.declared.Direction.{Direction}
+use Rattle.rounding.specs.declared.Direction.the-variants.{Nearest, TowardZero, Up, Down}
+use Rattle.rounding.specs.Rounding.{roundTo}
+
+-- the pattern of a sign alone
+abbrev pub signBit : Bool → ℕ
+signBit s = cond s 0x8000000000000000 0
+
+-- the patterns, without a sign, of what an overflow becomes
+abbrev pub overflowBits : Direction → Bool → ℕ
+overflowBits Nearest s = 0x7ff0000000000000
+overflowBits TowardZero s = 0x7fefffffffffffff
+overflowBits Up s = cond s 0x7fefffffffffffff 0x7ff0000000000000
+overflowBits Down s = cond s 0x7ff0000000000000 0x7fefffffffffffff
+
+-- the pattern of the sign s and the size b, which is an infinity's or more where the result overflows
+abbrev pub packed : Direction → Bool → ℕ → ℕ
+packed d s b = signBit s + cond (ltb b 0x7ff0000000000000) b (overflowBits d s)
+
+-- what is added before the low k digits are cut off, so that a direction's whole number is left; odd is the last digit that stays
+abbrev pub increment : Direction → Bool → ℕ → ℕ → ℕ
+increment Nearest s odd k = 2 ^ (k - 1) - 1 + odd
+increment TowardZero s odd k = 0
+increment Up s odd k = cond s 0 (2 ^ k - 1)
+increment Down s odd k = cond s (2 ^ k - 1) 0
+
+-- num / den, in units of 2 ^ -b, is a whole number, and m is what is left of it when e digits are cut off, with a sticky bit
+pub record Stands (b num den m e : ℕ) : Type 0 where
+  pub size : ℕ
+  pub den-pos : 0 < den
+  pub same : num * 2 ^ b ≡ size * den
+  pub cut : m ≡ jammed size (2 ^ e)
+
+-- r is the pattern of what w stands for, in units of 2 ^ -2273, rounded. A w of one word has to stand for itself.
+abbrev pub Rounds : Direction → Bool → ℕ → ℕ → ℕ → Type 0
+Rounds d s w e r = (num den : ℕ) → Stands 2273 num den w e → (w < 2 ^ 64 → num * 2 ^ 2273 ≡ w * 2 ^ e * den) → r ≡ toBits binary64 (roundTo d binary64 s num den)

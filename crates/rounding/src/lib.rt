@@ -1,0 +1,113 @@
+// Rounding to binary64 in a direction, IEEE 754-2019 4.3: the one round-and-pack routine of every operation.
+// What rounding means is defined in specs/Rounding.antt. A significand may end in a sticky bit, which stands for what
+// was cut off below it; the contracts say of which exact numbers it is the significand (`Stands` of specs/Machine.antt).
+ghost use mathlib.Core.Path.{_≡_};
+ghost use Prim.Native.Nat.{ℕ, _+_, _-_, _*_, _%_, _^_, _≤_, _<_};
+ghost use lib.Ieee.{toBits, binary64};
+ghost use Rattle.wide.specs.Words.{value};
+ghost use Rattle.rounding.specs.Rounding.{whole, roundTo};
+ghost use Rattle.rounding.specs.Machine.{signBit, overflowBits, packed, increment, Stands, Rounds};
+use wide::Wide;
+
+// The rounding-direction attributes of 4.3.
+pub enum Direction {
+    Nearest,
+    TowardZero,
+    Up,
+    Down,
+}
+
+// The pattern of a sign alone.
+pub const SIGN: u64 = 0x8000000000000000;
+// The pattern of +infinity.
+pub const INFINITY: u64 = 0x7ff0000000000000;
+// The pattern of the largest finite number.
+const LARGEST: u64 = 0x7fefffffffffffff;
+// The leading digit of a significand: one step of the exponent field.
+pub const LEADING: u64 = 0x10000000000000;
+
+pub fn sign_bit(neg: bool) -> u64
+    ensures { λ r. ⌜ r ≡ signBit neg ⌝ }
+{
+    if neg { SIGN } else { 0 }
+}
+
+fn overflow_bits(dir: Direction, neg: bool) -> u64
+    ensures { λ r. ⌜ r ≡ overflowBits dir neg ⌝ }
+{
+    match dir {
+        Direction::Nearest => INFINITY,
+        Direction::TowardZero => LARGEST,
+        Direction::Up => if neg { LARGEST } else { INFINITY },
+        Direction::Down => if neg { INFINITY } else { LARGEST },
+    }
+}
+
+// The pattern of a sign and a size, which is an infinity's or more where the result overflows.
+fn pack(dir: Direction, neg: bool, bits: u64) -> u64
+    ensures { λ r. ⌜ r ≡ packed dir neg bits ⌝ }
+{
+    if bits < INFINITY {
+        sign_bit(neg) + bits
+    } else {
+        sign_bit(neg) + overflow_bits(dir, neg)
+    }
+}
+
+fn rounding_increment(dir: Direction, neg: bool, odd: u64, k: u64) -> u64
+    requires { ⌜ (1 ≤ k) × (k ≤ 63) × (odd ≤ 1) ⌝ }
+    ensures { λ r. ⌜ r ≡ increment dir neg odd k ⌝ }
+{
+    match dir {
+        Direction::Nearest => (1 << (k - 1)) - 1 + odd,
+        Direction::TowardZero => 0,
+        Direction::Up => if neg { 0 } else { (1 << k) - 1 },
+        Direction::Down => if neg { (1 << k) - 1 } else { 0 },
+    }
+}
+
+// m / 2^k as a whole number.
+pub fn round_shift(dir: Direction, neg: bool, m: u64, k: u64) -> u64
+    requires { ⌜ (1 ≤ k) × (k ≤ 63) ⌝ }
+    ensures { λ r. ⌜ r ≡ whole dir neg m (2 ^ k) ⌝ }
+{
+    let q = m >> k;
+    let rest = m % (1 << k);
+    q + ((rest + rounding_increment(dir, neg, q % 2, k)) >> k)
+}
+
+// m * 2^e in units of 2^-2337, rounded and packed. The pattern is the quotient, plus a step of the exponent field for each
+// digit that is dropped beyond the 11 of the least normal number: a carry moves on into the field by itself.
+pub fn round_pack(dir: Direction, neg: bool, m: u64, e: u64) -> u64
+    requires { ⌜ (2 ^ 63 ≤ m) × (e ≤ 4322) ⌝ }
+    ensures { λ r. ⌜ ((num den : ℕ) → Stands 2337 num den m e → r ≡ toBits binary64 (roundTo dir binary64 neg num den)) ⌝ }
+{
+    if 1252 <= e {
+        let q = round_shift(dir, neg, m, 11);
+        return pack(dir, neg, (e - 1252) * LEADING + q);
+    }
+    let half = wide::set_sticky(m / 2, m % 2);
+    if 1199 <= e {
+        pack(dir, neg, round_shift(dir, neg, half, 1262 - e))
+    } else {
+        // less than half of the smallest subnormal number
+        pack(dir, neg, round_shift(dir, neg, 1, 63))
+    }
+}
+
+// w * 2^e in units of 2^-2273, rounded and packed: its 64 leading digits are taken, and a sticky bit stands for the others.
+pub fn round_wide(dir: Direction, neg: bool, w: Wide, e: u64) -> u64
+    requires { ⌜ (0 < value w) × (e ≤ 4194) ⌝ }
+    ensures { λ r. ⌜ Rounds dir neg (value w) e r ⌝ }
+{
+    let hi = w.hi;
+    let lo = w.lo;
+    if hi == 0 {
+        let z = u64::leading_zeros(lo) as u64;
+        round_pack(dir, neg, lo << z, e + 64 - z)
+    } else {
+        let z = u64::leading_zeros(hi) as u64;
+        let top = (hi << z) + (lo / 2 >> (63 - z));
+        round_pack(dir, neg, wide::set_sticky(top, lo << z), e + 128 - z)
+    }
+}
