@@ -54,15 +54,23 @@ fn pack(dir: Direction, neg: bool, bits: u64) -> u64
     }
 }
 
+// 2^k - 1.
+fn ones(k: u64) -> u64
+    requires { ⌜ k ≤ 63 ⌝ }
+    ensures { λ r. ⌜ r ≡ 2 ^ k - 1 ⌝ }
+{
+    (1 << k) - 1
+}
+
 fn rounding_increment(dir: Direction, neg: bool, odd: u64, k: u64) -> u64
     requires { ⌜ (1 ≤ k) × (k ≤ 63) × (odd ≤ 1) ⌝ }
     ensures { λ r. ⌜ r ≡ increment dir neg odd k ⌝ }
 {
     match dir {
-        Direction::Nearest => (1 << (k - 1)) - 1 + odd,
+        Direction::Nearest => ones(k - 1) + odd,
         Direction::TowardZero => 0,
-        Direction::Up => if neg { 0 } else { (1 << k) - 1 },
-        Direction::Down => if neg { (1 << k) - 1 } else { 0 },
+        Direction::Up => if neg { 0 } else { ones(k) },
+        Direction::Down => if neg { ones(k) } else { 0 },
     }
 }
 

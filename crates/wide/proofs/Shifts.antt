@@ -11,7 +11,7 @@ use lib.Pow.{pow-add, pow-pos, pow-mono, shr-lt, mod-mod-pow}
 use borrow.Author.Tests.{lt-ltb, le-ltb}
 use Rattle.wide.specs.declared.Wide.{Wide}
 use Rattle.wide.specs.Words.{value, sticky, jammed}
-use Rattle.wide.proofs.Nat.{le-or-gt}
+use Rattle.wide.proofs.Nat.{le-or-gt, mul-zero, shl}
 use Rattle.wide.proofs.Sticky.{Jam, just, near, sticky-rest, jam-of, jam-is, jam-jam, jam-exact, even-pow}
 
 -- ---- a whole word
@@ -39,23 +39,11 @@ up-is n t h =
     back : (t : ℕ) → t ≤ 63 → 64 - (64 - t) ≡ t
     back t h = omega arith
 
-    -- n << k
-    shl : (n k : ℕ) → k ≤ 64 → n * 2 ^ k % 2 ^ 64 ≡ n % 2 ^ (64 - k) * 2 ^ k
-    shl n k l =
-        ap (λ (x : ℕ). n * 2 ^ k % x) (sym (ap (λ (x : ℕ). 2 ^ x) (rest k l)) ∙ pow-add 2 (64 - k) k)
-        ∙ mod-mul (n * 2 ^ k) (pow-pos (64 - k)) (pow-pos k)
-        ∙ ap₂ (λ (x y : ℕ). x % 2 ^ (64 - k) * 2 ^ k + y) (mul-div-cancel n (pow-pos k)) (mul-mod-left n (2 ^ k))
-        ∙ add-zero (n % 2 ^ (64 - k) * 2 ^ k)
-      where
-        rest : (k : ℕ) → k ≤ 64 → 64 - k + k ≡ 64
-        rest k l = omega arith
-
     low : (n t : ℕ) → t ≤ 63 → n % 2 ^ 63 % 2 ^ t ≡ n % 2 ^ t
     low n t h = subst (λ (x : ℕ). n % 2 ^ x % 2 ^ t ≡ n % 2 ^ t) (whole t h) (mod-mod-pow n (63 - t) t)
       where
         whole : (t : ℕ) → t ≤ 63 → 63 - t + t ≡ 63
         whole t h = omega arith
-
 
 sixty-four : (t : ℕ) → t ≤ 64 → 2 ^ t * 2 ^ (64 - t) ≡ 2 ^ 64
 sixty-four t h = sym (pow-add 2 t (64 - t)) ∙ ap (λ (x : ℕ). 2 ^ x) (back t h)
@@ -95,7 +83,7 @@ module _ (h l t : ℕ) (L : l < 2 ^ 64) (T : t ≤ 63) where
       ap (λ (x : ℕ). h / 2 ^ t * 2 ^ 64 + x) e
       ∙ high (h / 2 ^ t) (up h t + l / 2 ^ t) (up l t)
       ∙ sticky-rest q (up l t) (l % 2 ^ t)
-      (λ z. none (l % 2 ^ t) (2 ^ (64 - t)) (pow-pos (64 - t)) (sym (up-is l t T) ∙ z))
+      (λ z. mul-zero (l % 2 ^ t) (2 ^ (64 - t)) (pow-pos (64 - t)) (sym (up-is l t T) ∙ z))
       (λ z. up-is l t T ∙ ap (λ (x : ℕ). x * 2 ^ (64 - t)) z ∙ zero-mul (2 ^ (64 - t)))
       ∙ ap₂ (λ (x y : ℕ). sticky x y) (sym d) (sym m)
     where
@@ -106,13 +94,6 @@ module _ (h l t : ℕ) (L : l < 2 ^ 64) (T : t ≤ 63) where
           go : (b : Bool) → h * 2 ^ 64 + cond b l (l / 2 * 2 + 1) ≡ cond b (h * 2 ^ 64 + l) ((h * 2 ^ 64 + l) / 2 * 2 + 1)
           go true = refl
           go false = omega arith
-
-      none : (x b : ℕ) → 0 < b → x * b ≡ 0 → x ≡ 0
-      none zero b B h = refl
-      none (suc x) b B h = absurd (no (suc x * b) (mul-pos {m = suc x} {n = b} (omega arith) B) h)
-        where
-          no : (y : ℕ) → 0 < y → y ≡ 0 → ⊥
-          no y a b = omega arith
 
 -- ---- any number of bits
 

@@ -1,0 +1,6 @@
+-- The theory of rounding, by subject, over the unit and the direction. Callers cite it.
+pub mod Place
+pub mod Increment
+pub mod Pattern
+pub mod Rounding
+pub mod Leading

@@ -1,0 +1,108 @@
+-- `rounding::round_wide` meets its contract. Assumes nothing.
+use mathlib.Core.Path.{_≡_, refl, sym, ap, ap₂, _∙_, subst}
+use Prim.Native.Nat.{ℕ, _+_, _-_, _*_, _/_, _%_, _^_, _≤_, _<_}
+use native.Mathlib.Nat.{mod-eq-of-lt, zero-add}
+use lib.Count.{leadingZeros}
+use borrow.Author.Needs.{needs}
+use native.Mathlib.Omega.{arith}
+use Rattle.wide.specs.Words.{value}
+use Rattle.rounding.specs.Machine.{Stands}
+use Rattle.rounding.proofs.Leading.{Leads, leads, top-fits, top-jammed, top-low, stands-top, stands-word}
+use Rattle.rounding.proofs.round_wide.Statement.{statement}
+use Rattle.rounding.proofs.round_wide.Tie as tie
+
+low-lt : (s : tie.Start) → s .args .w .lo < 2 ^ 64
+low-lt s = s .good .1 .1 .0 .1 .1 .1 .0 .1
+
+low-word : (c : tie.Then1) → Leads (c .before .args .w .lo) (leadingZeros 64 (c .before .args .w .lo))
+low-word c = let s = c .before in leads (s .args .w .lo) (some (s .args .w .hi) (s .args .w .lo) (c .if1 .taken) (s .pre .0)) (low-lt s)
+  where
+    some : (h l : ℕ) → h ≡ 0 → 0 < h * 2 ^ 64 + l → 0 < l
+    some h l e p = subst (λ (x : ℕ). 0 < x) (ap (λ (x : ℕ). x * 2 ^ 64 + l) e ∙ zero-add l) p
+
+high-word : (c : tie.Else1) → Leads (c .before .args .w .hi) (leadingZeros 64 (c .before .args .w .hi))
+high-word c = let s = c .before in leads (s .args .w .hi) (some (s .args .w .hi) (c .if1 .left)) (s .good .1 .1 .0 .1 .1 .0 .1)
+  where
+    some : (h : ℕ) → (h ≡ 0 → ⊥) → 0 < h
+    some h n = omega arith
+
+bound : (e k z : ℕ) → e ≤ 4194 → k ≤ 128 → e + k - z ≤ 4322
+bound e k z h l = omega arith
+
+cast-z : tie.Need-cast-z
+cast-z c = omega (arith, low-word c)
+
+shl-round-pack : tie.Need-shl-round-pack
+shl-round-pack c = omega (arith, low-word c)
+
+add-round-pack : tie.Need-add-round-pack
+add-round-pack c = search needs
+
+sub-round-pack : tie.Need-sub-round-pack
+sub-round-pack c = omega (arith, low-word c)
+
+round-pack-requires : tie.Need-round-pack-requires
+round-pack-requires c κs =
+    let w = c .before .args .w in
+    let l = low-word c in
+    (subst (λ (x : ℕ). 2 ^ 63 ≤ x) (sym (mod-eq-of-lt (l .high))) (l .low), bound (c .before .args .e) 64 (leadingZeros 64 (w .lo)) (c .before .pre .1) (omega arith))
+
+cast-z-2 : tie.Need-cast-z-2
+cast-z-2 c = omega (arith, high-word c)
+
+shl-top : tie.Need-shl-top
+shl-top c = omega (arith, high-word c)
+
+sub-top : tie.Need-sub-top
+sub-top c = omega (arith, high-word c)
+
+shr-top : tie.Need-shr-top
+shr-top c = omega (arith, high-word c)
+
+add-top : tie.Need-add-top
+add-top c = let w = c .before .args .w in record { fits = top-fits (w .hi) (w .lo) (leadingZeros 64 (w .hi)) (low-lt (c .before)) (high-word c) }
+
+shl-set-sticky : tie.Need-shl-set-sticky
+shl-set-sticky c = omega (arith, high-word c)
+
+set-sticky-requires : tie.Need-set-sticky-requires
+set-sticky-requires c κs = search needs
+
+add-round-pack-2 : tie.Need-add-round-pack-2
+add-round-pack-2 c = search needs
+
+sub-round-pack-2 : tie.Need-sub-round-pack-2
+sub-round-pack-2 c = omega (arith, high-word (c .before))
+
+round-pack-requires-2 : tie.Need-round-pack-requires-2
+round-pack-requires-2 c κs =
+    let w = c .before .before .args .w in (
+      top-low (w .hi) (w .lo) (leadingZeros 64 (w .hi)) (low-lt (c .before .before)) (high-word (c .before)) (c .set-sticky .result) (c .set-sticky .ensures),
+      bound (c .before .before .args .e) 128 (leadingZeros 64 (w .hi)) (c .before .before .pre .1) (omega arith),
+    )
+
+returns : tie.Need-returns
+returns c =
+    λ num den h x.
+    let t = c .before in
+    let s = t .before in
+    let w = s .args .w in
+    let z = leadingZeros 64 (w .lo) in
+    let l = low-word t in
+    let e : value w ≡ w .lo = ap (λ (y : ℕ). y * 2 ^ 64 + w .lo) (t .if1 .taken) ∙ zero-add (w .lo) in
+    c .round-pack .ensures num den
+    (subst (λ (y : ℕ). Stands 2337 num den y (s .args .e + 64 - z)) (sym (mod-eq-of-lt (l .high)))
+    (stands-word num den (w .lo) (s .args .e) z (l .few) (h .den-pos) (subst (λ (y : ℕ). num * 2 ^ 2273 ≡ y * 2 ^ s .args .e * den) e (x (subst (λ (y : ℕ). y < 2 ^ 64) (sym e) (low-lt s))))))
+
+returns-2 : tie.Need-returns-2
+returns-2 c =
+    λ num den h x.
+    let k = c .before in
+    let t = k .before in
+    let s = t .before in
+    let w = s .args .w in
+    let z = leadingZeros 64 (w .hi) in
+    c .round-pack2 .ensures num den (stands-top (k .set-sticky .result) z (high-word t .few) h (top-jammed (w .hi) (w .lo) z (low-lt s) (high-word t) (k .set-sticky .result) (k .set-sticky .ensures)))
+
+pub round-wide-spec : {M : Type 1} → statement M
+round-wide-spec = tie.close (tie.spec cast-z shl-round-pack add-round-pack sub-round-pack round-pack-requires cast-z-2 shl-top sub-top shr-top add-top shl-set-sticky set-sticky-requires add-round-pack-2 sub-round-pack-2 round-pack-requires-2 returns returns-2)
