@@ -150,6 +150,14 @@ whole-at TowardZero s U h = sits-div h
 whole-at Up s {n} {u} {q} {p} U h = ap₂ (λ (x y : ℕ). cond s x (cond (eqb y 0) x (suc x))) (sits-div h) (sits-mod h) ∙ ap (λ (x : ℕ). cond s q x) (above-at q (h .rest) u p (h .at))
 whole-at Down s {n} {u} {q} {p} U h = ap₂ (λ (x y : ℕ). cond s (cond (eqb y 0) x (suc x)) x) (sits-div h) (sits-mod h) ∙ ap (λ (x : ℕ). cond s x q) (above-at q (h .rest) u p (h .at))
 
+pub whole-exact : (d : Direction) (s : Bool) (q : ℕ) → wholeAt d s q exact ≡ q
+whole-exact Nearest s q = refl
+whole-exact TowardZero s q = refl
+whole-exact Up true q = refl
+whole-exact Up false q = refl
+whole-exact Down true q = refl
+whole-exact Down false q = refl
+
 -- it is the whole part, or one more
 pub near-whole : (d : Direction) (s : Bool) (q : ℕ) (p : Place) → (wholeAt d s q p ≡ q) ⊎ (wholeAt d s q p ≡ suc q)
 near-whole d s q p = direction d s
@@ -224,6 +232,9 @@ sits-same {n} {u} {m} {v} {q} {p} U W e h =
     let a : Sits (m * u) (v * u) (m / v) (place (m % v) v) = sits-scale u U (sits m v W) in
     let b : Sits (m * u) (v * u) q p = subst (λ (x : ℕ). Sits x (v * u) q p) e (subst (λ (x : ℕ). Sits (n * v) x q p) (mul-comm u v) (sits-scale v W h)) in
     subst (λ (x : ℕ). Sits m v x p) (sym (sits-div a) ∙ sits-div b) (subst (λ (x : Place). Sits m v (m / v) x) (sym (sits-place a) ∙ sits-place b) (sits m v W))
+
+pub whole-same : (d : Direction) (s : Bool) (n u m v : ℕ) → 0 < u → 0 < v → n * v ≡ m * u → whole d s n u ≡ whole d s m v
+whole-same d s n u m v U W e = let h = sits n u U in whole-at d s U h ∙ sym (whole-at d s W (sits-same U W e h))
 
 -- ---- a sticky bit keeps the whole part and the place at each unit that is a multiple of four
 

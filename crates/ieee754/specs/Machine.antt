@@ -1,0 +1,51 @@
+-- What the functions of this crate say of each other. Nothing here is part of what an operation means. Definitions only.
+use mathlib.Core.Path.{_≡_}
+use mathlib.Core.Logic.{_⊎_}
+use Prim.Native.Nat.{ℕ, _+_, _*_, _/_, _%_, _^_, _≤_, _<_}
+use mathlib.Core.Bool.{Bool}
+use lib.Dec.{leb}
+use lib.Ieee.{ofBits, binary64}
+use lib.Ieee.Exact.{HasValue}
+use Rattle.rounding.specs.Machine.{Stands}
+use Rattle.ieee754.specs.declared.parts.Parts.{Parts}
+
+-- ---- patterns
+
+-- the sign of a pattern, and the pattern without it
+abbrev pub signOf : ℕ → Bool
+signOf b = leb 0x8000000000000000 b
+
+abbrev pub magnitude : ℕ → ℕ
+magnitude b = b % 0x8000000000000000
+
+-- a significand of 53 digits, and an exponent in units of 2 ^ -1126
+pub record Normal (p : Parts) : Type 0 where
+  pub low : 2 ^ 52 ≤ p .m
+  pub high : p .m < 2 ^ 53
+  pub small : p .e ≤ 2097
+
+-- p is the finite number that b is a pattern of
+pub record Reads (b : ℕ) (p : Parts) : Type 0 where
+  pub normal : Normal p
+  pub value : HasValue (ofBits binary64 b) (signOf b) (p .m * 2 ^ p .e) (2 ^ 1126)
+
+-- ---- sums, in units of 2 ^ -2273
+
+-- a product or an addend, brought to 126 or 127 digits
+pub record Ready (w : ℕ) : Type 0 where
+  pub low : 2 ^ 125 ≤ w
+  pub high : w < 2 ^ 127
+  pub tail : w % 2 ^ 21 ≡ 0
+
+abbrev pub productSize : Parts → Parts → ℕ
+productSize a b = a .m * 1024 * (b .m * 2048) * 2 ^ (a .e + b .e)
+
+abbrev pub addendSize : Parts → ℕ
+addendSize c = c .m * 1024 * 2 ^ 64 * 2 ^ (c .e + 1073)
+
+-- A / c is x * 2 ^ e, and y stands for B / c. Where y does not stand for itself, x is much the larger.
+pub record Addends (A B c x y e : ℕ) : Type 0 where
+  pub first : A * 2 ^ 2273 ≡ x * 2 ^ e * c
+  pub second : Stands 2273 B c y e
+  pub far : (B * 2 ^ 2273 ≡ y * 2 ^ e * c) ⊎ (y + 2 ^ 64 ≤ x)
+  pub even : x % 2 ≡ 0

@@ -1,0 +1,68 @@
+// A 64-bit pattern as a sign, and as a significand and an exponent.
+ghost use mathlib.Core.Path.{_≡_};
+ghost use mathlib.Core.Bool.{true};
+ghost use Prim.Native.Nat.{_+_, _*_, _^_, _<_};
+ghost use lib.Ieee.{unlike};
+ghost use Rattle.ieee754.specs.Machine.{signOf, magnitude, Normal, Reads};
+use rounding::INFINITY;
+use rounding::LEADING;
+use rounding::SIGN;
+
+// The pattern that every NaN result has.
+pub const NAN: u64 = 0x7ff8000000000000;
+
+// A finite number that is not zero, without its sign: m * 2^e in units of 2^-1126, with m of 53 digits.
+pub struct Parts {
+    pub m: u64,
+    pub e: u64,
+}
+
+pub fn negative(b: u64) -> bool
+    ensures { λ r. ⌜ r ≡ signOf b ⌝ }
+{
+    SIGN <= b
+}
+
+// Whether a product of the two is negative.
+pub fn unlike_signs(a: u64, b: u64) -> bool
+    ensures { λ r. ⌜ r ≡ unlike (signOf a) (signOf b) ⌝ }
+{
+    negative(a) != negative(b)
+}
+
+// Whether b is a normal number.
+pub fn is_normal(b: u64) -> bool
+    ensures { λ r. ⌜ (r ≡ true → (0 < magnitude b) × (magnitude b < 0x7ff0000000000000)) ⌝ }
+{
+    let field = b % SIGN / LEADING;
+    if field == 0 { false } else { field < 2047 }
+}
+
+// The fraction of a subnormal number, shifted up to 53 digits.
+fn read_subnormal(fraction: u64) -> Parts
+    requires { ⌜ (0 < fraction) × (fraction < 2 ^ 52) ⌝ }
+    ensures { λ r. ⌜ Normal r × (r .m * 2 ^ r .e ≡ fraction * 2 ^ 52) ⌝ }
+{
+    let z = u64::leading_zeros(fraction) as u64 - 11;
+    Parts {
+        m: fraction << z,
+        e: 52 - z,
+    }
+}
+
+// The parts of a finite number that is not zero.
+pub fn read(b: u64) -> Parts
+    requires { ⌜ (0 < magnitude b) × (magnitude b < 0x7ff0000000000000) ⌝ }
+    ensures { λ r. ⌜ Reads b r ⌝ }
+{
+    let field = b % SIGN / LEADING;
+    let fraction = b % LEADING;
+    if field == 0 {
+        read_subnormal(fraction)
+    } else {
+        Parts {
+            m: LEADING + fraction,
+            e: field + 51,
+        }
+    }
+}
