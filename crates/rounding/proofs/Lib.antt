@@ -4,3 +4,4 @@ pub mod Increment
 pub mod Pattern
 pub mod Rounding
 pub mod Leading
+pub mod Fits

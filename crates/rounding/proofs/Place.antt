@@ -199,12 +199,12 @@ whole-le d s q p = elim (near-whole d s q p) [
   | inr e ↦ subst (λ (x : ℕ). x ≤ suc q) (sym e) (le-refl (suc q))
 ]
 
-pub whole-steps : (d : Direction) (s : Bool) (m k : ℕ) → whole d s m (2 ^ k) ≤ suc (m / 2 ^ k)
-whole-steps d s m k = subst (λ (x : ℕ). x ≤ suc (m / 2 ^ k)) (sym (whole-at d s (pow-pos k) (sits m (2 ^ k) (pow-pos k)))) (whole-le d s (m / 2 ^ k) (place (m % 2 ^ k) (2 ^ k)))
+pub whole-next : (d : Direction) (s : Bool) (n u : ℕ) → 0 < u → whole d s n u ≤ suc (n / u)
+whole-next d s n u U = subst (λ (x : ℕ). x ≤ suc (n / u)) (sym (whole-at d s U (sits n u U))) (whole-le d s (n / u) (place (n % u) u))
 
 -- the whole number of a word, shifted, fits in a word
 pub whole-bound : (d : Direction) (s : Bool) (m k : ℕ) → m < 2 ^ 64 → 1 ≤ k → whole d s m (2 ^ k) < 2 ^ 64
-whole-bound d s m k M K = small (whole d s m (2 ^ k)) (m / 2 ^ k) (whole-steps d s m k) (shr-lt 63 k (lt-of-lt-of-le M (pow-mono {i = 64} {j = 63 + k} (omega arith))))
+whole-bound d s m k M K = small (whole d s m (2 ^ k)) (m / 2 ^ k) (whole-next d s m (2 ^ k) (pow-pos k)) (shr-lt 63 k (lt-of-lt-of-le M (pow-mono {i = 64} {j = 63 + k} (omega arith))))
   where
     small : (w q : ℕ) → w ≤ suc q → q < 2 ^ 63 → w < 2 ^ 64
     small w q a b = omega arith

@@ -6,7 +6,7 @@ use native.Mathlib.Omega.{arith}
 use Rattle.wide.specs.Words.{sticky}
 use Rattle.wide.proofs.Sticky.{Jam, jam-of, jam-below, jam-ge}
 use Rattle.rounding.specs.Machine.{packed}
-use Rattle.rounding.proofs.Place.{whole-steps}
+use Rattle.rounding.proofs.Place.{whole-next}
 use Rattle.rounding.proofs.Rounding.{bits-normal, bits-subnormal, bits-tiny, stands-half}
 use Rattle.rounding.proofs.round_pack.Statement.{statement}
 use Rattle.rounding.proofs.round_pack.Tie as tie
@@ -22,7 +22,7 @@ mul-pack : tie.Need-mul-pack
 mul-pack c = search needs
 
 add-pack : tie.Need-add-pack
-add-pack c = let a = c .before .before .args in omega (arith, c .round-shift .ensures, whole-steps (a .dir) (a .neg) (a .m) 11)
+add-pack c = let a = c .before .before .args in omega (arith, c .round-shift .ensures, whole-next (a .dir) (a .neg) (a .m) (2 ^ 11) (omega arith))
 
 pack-requires : tie.Need-pack-requires
 pack-requires c κs = search needs

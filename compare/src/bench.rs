@@ -1,0 +1,125 @@
+//! Times the weigher's operations beside the machine's and musl's.
+//!
+//! Each is called through a function pointer that the compiler does not see through, on the same operands, in turn.
+
+use std::hint::black_box;
+use std::time::Instant;
+
+use crate::ffi;
+use crate::random::Random;
+use crate::values::{SIGN, uniform};
+
+const OPERANDS: usize = 4096;
+const ROUNDS: usize = 2000;
+
+type Three = (u64, u64, u64);
+
+/// A way to compute an operation: its name, and the calls of a round.
+type Way<T> = (&'static str, Box<dyn Fn(&[T]) -> u64>);
+
+pub fn run() {
+    let random = &mut Random::new(3);
+    let ways = fused_ways();
+    let operands = prepare(|| three(random, -40, 40));
+    time("fused, exponents from -40 to 40", &operands, &ways);
+    let operands = prepare(|| three(random, -1022, 1023));
+    time("fused, exponents of all normals", &operands, &ways);
+    let operands = prepare(|| product_and_negative(random));
+    time("fused, c = -(a * b) rounded", &operands, &ways);
+    if cfg!(not(musl_fma)) {
+        println!("musl's fma: not installed");
+    }
+
+    let operands = prepare(|| one(random, -2, 54));
+    let ways = whole_ways(ffi::weigher_round, f64::round_ties_even);
+    time("round, exponents from -2 to 54", &operands, &ways);
+    let ways = whole_ways(ffi::weigher_floor, f64::floor);
+    time("floor, exponents from -2 to 54", &operands, &ways);
+
+    let operands = prepare(|| (one(random, -40, 40), random.between(-100, 100) as i32));
+    time("scale, n from -100 to 100", &operands, &scale_ways());
+}
+
+fn prepare<T>(operand: impl FnMut() -> T) -> Vec<T> {
+    std::iter::repeat_with(operand).take(OPERANDS).collect()
+}
+
+fn one(random: &mut Random, lo: i64, hi: i64) -> u64 {
+    let exponent = random.between(lo, hi);
+    uniform(random, exponent)
+}
+
+fn three(random: &mut Random, lo: i64, hi: i64) -> Three {
+    let mut operand = || one(random, lo, hi);
+    (operand(), operand(), operand())
+}
+
+/// The operands by which the rounding error of a product is computed.
+fn product_and_negative(random: &mut Random) -> Three {
+    let (a, b, _) = three(random, -40, 40);
+    let product = f64::from_bits(a) * f64::from_bits(b);
+    (a, b, product.to_bits() ^ SIGN)
+}
+
+fn way<T>(name: &'static str, call: impl Fn(&T) -> u64 + 'static) -> Way<T> {
+    let round = move |operands: &[T]| operands.iter().fold(0, |all, x| all ^ call(x));
+    (name, Box::new(round))
+}
+
+fn fused_ways() -> Vec<Way<Three>> {
+    let weigher = black_box(ffi::weigher_fused as extern "C" fn(u64, u64, u64) -> u64);
+    let machine = black_box(f64::mul_add as fn(f64, f64, f64) -> f64);
+    vec![
+        way("weigher", move |&(a, b, c)| weigher(a, b, c)),
+        way("machine", move |&(a, b, c)| {
+            machine(f64::from_bits(a), f64::from_bits(b), f64::from_bits(c)).to_bits()
+        }),
+        #[cfg(musl_fma)]
+        musl_way(),
+    ]
+}
+
+#[cfg(musl_fma)]
+fn musl_way() -> Way<Three> {
+    let musl = black_box(ffi::musl_fma as extern "C" fn(f64, f64, f64) -> f64);
+    way("musl", move |&(a, b, c)| {
+        musl(f64::from_bits(a), f64::from_bits(b), f64::from_bits(c)).to_bits()
+    })
+}
+
+fn whole_ways(weigher: extern "C" fn(u64) -> u64, machine: fn(f64) -> f64) -> [Way<u64>; 2] {
+    let (weigher, machine) = (black_box(weigher), black_box(machine));
+    [
+        way("weigher", move |&x| weigher(x)),
+        way("machine", move |&x| machine(f64::from_bits(x)).to_bits()),
+    ]
+}
+
+fn scale_ways() -> [Way<(u64, i32)>; 2] {
+    let weigher = black_box(ffi::weigher_scale as extern "C" fn(u64, i32) -> u64);
+    let machine = black_box(ffi::ldexp as extern "C" fn(f64, i32) -> f64);
+    [
+        way("weigher", move |&(x, n)| weigher(x, n)),
+        way("machine", move |&(x, n)| {
+            machine(f64::from_bits(x), n).to_bits()
+        }),
+    ]
+}
+
+/// Prints the least time of a call in any round for each way, and the ratio of the first way's to each other's.
+fn time<T>(title: &str, operands: &[T], ways: &[Way<T>]) {
+    let mut least = vec![f64::INFINITY; ways.len()];
+    for _ in 0..ROUNDS {
+        for ((_, round), least) in ways.iter().zip(&mut least) {
+            let start = Instant::now();
+            black_box(round(black_box(operands)));
+            *least = least.min(start.elapsed().as_secs_f64() * 1e9 / operands.len() as f64);
+        }
+    }
+    println!("{title}");
+    println!("  {:8} {:6.2} ns", ways[0].0, least[0]);
+    for ((name, _), ns) in ways.iter().zip(&least).skip(1) {
+        let ratio = least[0] / ns;
+        println!("  {name:8} {ns:6.2} ns, {} / {name} {ratio:.2}", ways[0].0);
+    }
+}

@@ -1,0 +1,46 @@
+//! One call of an operation, answered by the weigher or by the machine.
+
+use std::fmt;
+
+use crate::{ffi, machine};
+
+/// An operation with its operands. Floats are bit patterns.
+#[derive(Clone, Copy)]
+pub enum Case {
+    Fused(u64, u64, u64),
+    Round(u64),
+    Floor(u64),
+    Scale(u64, i32),
+}
+
+impl Case {
+    pub fn weigher(self) -> u64 {
+        match self {
+            Case::Fused(a, b, c) => ffi::weigher_fused(a, b, c),
+            Case::Round(x) => ffi::weigher_round(x),
+            Case::Floor(x) => ffi::weigher_floor(x),
+            Case::Scale(x, n) => ffi::weigher_scale(x, n),
+        }
+    }
+
+    pub fn machine(self) -> u64 {
+        match self {
+            Case::Fused(a, b, c) => machine::fused(a, b, c),
+            Case::Round(x) => machine::round(x),
+            Case::Floor(x) => machine::floor(x),
+            Case::Scale(x, n) => machine::scale(x, n),
+        }
+    }
+}
+
+/// The case as a vector has it, without the answer. n is in two's complement.
+impl fmt::Display for Case {
+    fn fmt(&self, f: &mut fmt::Formatter) -> fmt::Result {
+        match self {
+            Case::Fused(a, b, c) => write!(f, "fused {a:016x} {b:016x} {c:016x}"),
+            Case::Round(x) => write!(f, "round {x:016x}"),
+            Case::Floor(x) => write!(f, "floor {x:016x}"),
+            Case::Scale(x, n) => write!(f, "scale {x:016x} {n:08x}"),
+        }
+    }
+}

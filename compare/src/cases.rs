@@ -1,0 +1,272 @@
+//! The cases of each operation: edges, and random ones of several kinds.
+
+use crate::case::Case;
+use crate::machine;
+use crate::random::Random;
+use crate::values::{SIGN, assemble, beside, both_signs, float, special};
+
+/// How the cases of an operation are made.
+pub struct Operation {
+    pub name: &'static str,
+    /// The fixed cases, over a table of special values.
+    pub edges: fn(&[u64]) -> Vec<Case>,
+    pub random: fn(&mut Random) -> Case,
+}
+
+pub const FUSED: Operation = Operation {
+    name: "fused",
+    edges: fused_edges,
+    random: |random| {
+        let (a, b, c) = fused_operands(random);
+        Case::Fused(a, b, c)
+    },
+};
+
+pub const ROUND: Operation = Operation {
+    name: "round",
+    edges: |specials| whole_edges(specials).map(Case::Round).collect(),
+    random: |random| Case::Round(whole_operand(random)),
+};
+
+pub const FLOOR: Operation = Operation {
+    name: "floor",
+    edges: |specials| whole_edges(specials).map(Case::Floor).collect(),
+    random: |random| Case::Floor(whole_operand(random)),
+};
+
+pub const SCALE: Operation = Operation {
+    name: "scale",
+    edges: scale_edges,
+    random: |random| {
+        let (x, n) = scale_operands(random);
+        Case::Scale(x, n)
+    },
+};
+
+/// Products and addends, as patterns, that are tried with every choice of signs.
+const SUMS: [(u64, u64, u64); 9] = [
+    // Zeros, or doubles, by the signs alone.
+    (0, 0x3ff0000000000000, 0),
+    (0x3ff8000000000000, 0x4000000000000000, 0x4008000000000000),
+    (0x3ff0000000000000, 1, 1),
+    (0x1e60000000000000, 0x1e60000000000000, 1),
+    (0x7fefffffffffffff, 0x3ff0000000000000, 0x7fefffffffffffff),
+    // (1 + 2^-52)^2 and 1 + 2^-51: all but 2^-104 cancels.
+    (0x3ff0000000000001, 0x3ff0000000000001, 0x3ff0000000000002),
+    // A tie of subnormals.
+    (1, 0x3fe0000000000000, 1),
+    // The largest finite and half a unit in its last place, a tie that overflows, and a little less.
+    (0x7fefffffffffffff, 0x3ff0000000000000, 0x7c90000000000000),
+    (0x7fefffffffffffff, 0x3ff0000000000000, 0x7c8fffffffffffff),
+];
+
+/// Every three of the special values, and the sums above.
+fn fused_edges(specials: &[u64]) -> Vec<Case> {
+    let specials = both_signs(specials);
+    let mut cases = Vec::new();
+    for &a in &specials {
+        for &b in &specials {
+            cases.extend(specials.iter().map(|&c| Case::Fused(a, b, c)));
+        }
+    }
+    for (a, b, c) in SUMS {
+        for signs in 0..8 {
+            let signed = |x: u64, place: u32| x | (signs >> place & 1) << 63;
+            cases.push(Case::Fused(signed(a, 0), signed(b, 1), signed(c, 2)));
+        }
+    }
+    cases
+}
+
+fn fused_operands(random: &mut Random) -> (u64, u64, u64) {
+    match random.below(8) {
+        0 => (random.word(), random.word(), random.word()),
+        1 => near_one(random),
+        2 => product_and_addend(random, -900, 900),
+        3 => cancelling(random),
+        4 => product_and_addend(random, -1085, -1015),
+        5 => product_and_addend(random, 1020, 1025),
+        6 => tie(random),
+        _ => (special(random), special(random), special(random)),
+    }
+}
+
+fn near_one(random: &mut Random) -> (u64, u64, u64) {
+    let mut near = || {
+        let exponent = random.between(-40, 40);
+        float(random, exponent)
+    };
+    (near(), near(), near())
+}
+
+/// Exponents of two factors whose sum is a given one.
+fn split(random: &mut Random, sum: i64) -> (i64, i64) {
+    let first = random.between((sum - 1023).max(-1074), (sum + 1074).min(1023));
+    (first, sum - first)
+}
+
+/// A product of an exponent from lo to hi, and an addend that overlaps it or nearly does.
+fn product_and_addend(random: &mut Random, lo: i64, hi: i64) -> (u64, u64, u64) {
+    let exponent = random.between(lo, hi);
+    let (first, second) = split(random, exponent);
+    let addend = exponent + random.between(-110, 110);
+    (
+        float(random, first),
+        float(random, second),
+        float(random, addend),
+    )
+}
+
+/// An addend within a few units in the last place of the product, of the other sign.
+fn cancelling(random: &mut Random) -> (u64, u64, u64) {
+    let exponent = random.between(-1080, 1022);
+    let (first, second) = split(random, exponent);
+    let (a, b) = (float(random, first), float(random, second));
+    let product = machine::pattern(f64::from_bits(a) * f64::from_bits(b));
+    (a, b, beside(random, product ^ SIGN, 4))
+}
+
+/// A product at a tie, with nothing, little or half a unit added; a unit beside a tie it is no tie.
+fn tie(random: &mut Random) -> (u64, u64, u64) {
+    let exponent = random.between(-1000, 1000);
+    let (first, second) = split(random, exponent);
+    if random.below(2) == 0 {
+        let half = assemble(random, exponent - 53, 0);
+        return (
+            float(random, first),
+            assemble(random, second, 0),
+            beside(random, half, 1),
+        );
+    }
+    // Odd factors of 27 bits: their product has 53 bits, or 54 and is a tie.
+    let mut odd = || (random.below(1 << 26) | 1) << 26;
+    let (f, g) = (odd(), odd());
+    let addend = match random.below(2) {
+        0 => random.word() & SIGN,
+        _ => {
+            let below = random.between(54, 250);
+            float(random, exponent - below)
+        }
+    };
+    (
+        assemble(random, first, f),
+        assemble(random, second, g),
+        addend,
+    )
+}
+
+/// The special values, and the halves from 0.5 on with their neighbours.
+fn whole_edges(specials: &[u64]) -> impl Iterator<Item = u64> {
+    let small = (0..20).map(f64::from);
+    let large = (5..53).map(|k| (1u64 << k) as f64);
+    let halves = small
+        .chain(large)
+        .map(|n| (n + 0.5).to_bits())
+        .flat_map(|x| [x - 1, x, x + 1]);
+    let patterns: Vec<u64> = specials.iter().copied().chain(halves).collect();
+    both_signs(&patterns).into_iter()
+}
+
+fn whole_operand(random: &mut Random) -> u64 {
+    match random.below(4) {
+        0 => random.word(),
+        1 => {
+            let exponent = random.between(-3, 55);
+            float(random, exponent)
+        }
+        2 => {
+            let whole = random.word() >> random.between(11, 63);
+            let half = (whole as f64 + 0.5).to_bits() | (random.word() & SIGN);
+            beside(random, half, 1)
+        }
+        _ => special(random),
+    }
+}
+
+/// Exponents at which results become subnormal, vanish or overflow, and the ends of the type.
+const STEPS: [i32; 46] = [
+    i32::MIN,
+    i32::MIN + 1,
+    -100000,
+    -2200,
+    -2100,
+    -2099,
+    -2098,
+    -2097,
+    -2047,
+    -2046,
+    -2045,
+    -1127,
+    -1126,
+    -1076,
+    -1075,
+    -1074,
+    -1073,
+    -1025,
+    -1024,
+    -1023,
+    -1022,
+    -1021,
+    -54,
+    -53,
+    -52,
+    -1,
+    0,
+    1,
+    52,
+    53,
+    54,
+    1021,
+    1022,
+    1023,
+    1024,
+    1074,
+    1075,
+    2045,
+    2046,
+    2097,
+    2098,
+    2099,
+    2200,
+    100000,
+    i32::MAX - 1,
+    i32::MAX,
+];
+
+fn scale_edges(specials: &[u64]) -> Vec<Case> {
+    both_signs(specials)
+        .into_iter()
+        .flat_map(|x| STEPS.map(|n| Case::Scale(x, n)))
+        .collect()
+}
+
+fn scale_operands(random: &mut Random) -> (u64, i32) {
+    match random.below(6) {
+        0 => (random.word(), random.word() as i32),
+        1 => (random.word(), random.between(-2200, 2200) as i32),
+        2 => to_subnormal(random),
+        3 => {
+            let exponent = random.between(-1074, 1023);
+            let n = 1023 - exponent + random.between(-2, 2);
+            (float(random, exponent), n as i32)
+        }
+        4 => {
+            let exponent = random.between(-1074, -1023);
+            (float(random, exponent), random.between(-60, 2200) as i32)
+        }
+        _ => (special(random), random.pick(&STEPS)),
+    }
+}
+
+/// A result that loses 1 to 55 bits, half of the time at a tie or a unit beside one.
+fn to_subnormal(random: &mut Random) -> (u64, i32) {
+    let exponent = random.between(-1022, 1023);
+    let lost = random.between(1, 55);
+    let x = float(random, exponent);
+    let n = (-1022 - exponent - lost) as i32;
+    if lost > 52 || random.below(2) == 0 {
+        return (x, n);
+    }
+    let half = (x >> lost << lost) | 1 << (lost - 1);
+    (beside(random, half, 1), n)
+}

@@ -1,0 +1,22 @@
+//! The functions of C: those of include/weigher.h, the platform's ldexp, and musl's fma where it is linked.
+//!
+//! Nothing checks these declarations against the C side. All of them take and return plain numbers, and are safe to call.
+
+#[link(name = "capi", kind = "static")]
+unsafe extern "C" {
+    pub safe fn weigher_fused(a: u64, b: u64, c: u64) -> u64;
+    pub safe fn weigher_round(x: u64) -> u64;
+    pub safe fn weigher_floor(x: u64) -> u64;
+    pub safe fn weigher_scale(x: u64, n: i32) -> u64;
+}
+
+#[link(name = "m")]
+unsafe extern "C" {
+    pub safe fn ldexp(x: f64, n: i32) -> f64;
+}
+
+#[cfg(musl_fma)]
+#[link(name = "musl_fma", kind = "static")]
+unsafe extern "C" {
+    pub safe fn musl_fma(x: f64, y: f64, z: f64) -> f64;
+}

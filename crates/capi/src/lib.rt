@@ -1,0 +1,36 @@
+// The C interface of the weigher, declared for C in include/weigher.h. Each function has the contract of the one it calls.
+ghost use mathlib.Core.Path.{_≡_};
+ghost use Rattle.rounding.specs.declared.Direction.the-variants.{Nearest};
+ghost use Rattle.ieee754.specs.Operations.{fusedBits, roundBits, floorBits, scaleBits};
+
+// a × b + c, rounded once.
+#[no_mangle]
+pub extern "C" fn weigher_fused(a: u64, b: u64, c: u64) -> u64
+    ensures { λ r. ⌜ r ≡ fusedBits Nearest a b c ⌝ }
+{
+    ieee754::fused(a, b, c)
+}
+
+// The nearest whole number, a tie to the even one.
+#[no_mangle]
+pub extern "C" fn weigher_round(x: u64) -> u64
+    ensures { λ r. ⌜ r ≡ roundBits x ⌝ }
+{
+    ieee754::round(x)
+}
+
+// The greatest whole number not above x.
+#[no_mangle]
+pub extern "C" fn weigher_floor(x: u64) -> u64
+    ensures { λ r. ⌜ r ≡ floorBits x ⌝ }
+{
+    ieee754::floor(x)
+}
+
+// x × 2^n, rounded once.
+#[no_mangle]
+pub extern "C" fn weigher_scale(x: u64, n: i32) -> u64
+    ensures { λ r. ⌜ r ≡ scaleBits x n ⌝ }
+{
+    ieee754::scale(x, n)
+}

@@ -1,0 +1,83 @@
+// Runs the vectors of standard input through the four operations of ieee754: a line for each failure, and then the count.
+//
+// A vector is `fused A B C WANT`, `round X WANT`, `floor X WANT` or `scale X N WANT`. Floats are bit patterns, and N is the
+// two's complement of 32 bits.
+use vectors::Answer;
+use vectors::Numbers;
+ghost use mathlib.Core.Path.{_≡_};
+ghost use Prim.Native.Nat.{_<_};
+ghost use mir.Syntax.{w32};
+ghost use mir.Val.{toZ};
+
+// The i32 whose two's complement is n.
+fn signed(n: u64) -> i32
+    requires { ⌜ n < 4294967296 ⌝ }
+    ensures { λ r. ⌜ r ≡ toZ w32 n ⌝ }
+{
+    if n < 2147483648 {
+        n as i32
+    } else {
+        -1 - (4294967295 - n) as i32
+    }
+}
+
+// What the named operation gives for a line's numbers, of which the last is the one wanted.
+fn answer(name: &[u8], numbers: Numbers) -> Answer {
+    let count = numbers.count;
+    let v = numbers.values;
+    if count == 4 && check::same(name, b"fused") {
+        return Answer::Found {
+            got: ieee754::fused(v[0], v[1], v[2]),
+            want: v[3],
+        };
+    }
+    if count == 3 && v[1] < 4294967296 && check::same(name, b"scale") {
+        return Answer::Found {
+            got: ieee754::scale(v[0], signed(v[1])),
+            want: v[2],
+        };
+    }
+    if count == 2 && check::same(name, b"round") {
+        return Answer::Found {
+            got: ieee754::round(v[0]),
+            want: v[1],
+        };
+    }
+    if count == 2 && check::same(name, b"floor") {
+        return Answer::Found {
+            got: ieee754::floor(v[0]),
+            want: v[1],
+        };
+    }
+    Answer::Malformed
+}
+
+fn line_passes(number: u64, line: &[u8]) -> bool {
+    let end = vectors::field_end(line, 0);
+    let numbers = vectors::read_numbers(line, end);
+    vectors::passes(answer(&line[..end], numbers), number, line)
+}
+
+fn run(text: &[u8]) {
+    let mut lines = 0;
+    let mut failures = 0;
+    let mut at = 0;
+    while at < text.len() {
+        let end = vectors::line_end(text, at);
+        lines += 1;
+        if !line_passes(lines, &text[at..end]) {
+            failures += 1;
+        }
+        if end == text.len() {
+            break;
+        }
+        at = end + 1;
+    }
+    vectors::print_count(lines, failures);
+}
+
+fn main() {
+    let mut space = vectors::space();
+    let len = vectors::read_text(&mut space);
+    run(&space[..len]);
+}

@@ -1,0 +1,84 @@
+-- From an operation on patterns to the same on floats. A float that fits is read back from its own pattern. Assumes nothing.
+use mathlib.Core.Path.{_≡_, refl, sym, ap, ap₂, _∙_, subst}
+use Prim.Native.Nat.{ℕ, _*_, _%_, _≤_, _<_}
+use mathlib.Core.Bool.{Bool, true, false, not, _&&_, _||_, Bool·beq, true≢false}
+use lib.IntN.{ℤ}
+use lib.Dec.{T, eqb}
+use borrow.Author.Tests.{lt-ltb, le-ltb, eq-eqb}
+use lib.Ieee.{Float, nan, inf, fin, binary64, up, down, ne, isNan, fits, div, nanBits, ofBits, toBits}
+use lib.Ieee.Bits.{ofBits-toBits, nanBits-is, nanBits-above}
+use Rattle.rounding.specs.declared.Direction.{Direction}
+use Rattle.rounding.specs.declared.Direction.the-variants.{Nearest, Down}
+use Rattle.ieee754.specs.Operations.{fusedMultiplyAdd, fusedBits, roundToIntegral, roundBits, floorBits, scaleB, scaleBits}
+use Rattle.math.proofs.Fits.{fused-fits, integral-fits, scale-fits}
+
+-- ---- x != x says that x is a NaN
+
+number : (x : Float) → T (not (isNan x)) → ne x x ≡ false
+unfolding ne isNan
+number nan t = absurd t
+number (inf true) t = refl
+number (inf false) t = refl
+number (fin s m e) t = ap₂ (λ (a b : Bool). not (a && (b || eqb (m * up e * down e) 0))) (eq-eqb (m * up e * down e) (m * up e * down e) refl) (same s)
+  where
+    same : (s : Bool) → Bool·beq s s ≡ true
+    same true = refl
+    same false = refl
+
+pub no-nan : (x : Float) → ne x x ≡ false → T (not (isNan x))
+unfolding ne isNan
+no-nan nan e = absurd (true≢false e)
+no-nan (inf s) e = tt
+no-nan (fin s m e) h = tt
+
+pub a-nan : (x : Float) → ne x x ≡ true → 0x7ff8000000000000 ≡ toBits binary64 x
+unfolding isNan toBits
+a-nan nan e = refl
+a-nan (inf s) e = absurd (true≢false (sym e ∙ number (inf s) tt))
+a-nan (fin s m x) e = absurd (true≢false (sym e ∙ number (fin s m x) tt))
+
+-- ---- the patterns of NaNs
+
+is-nan : (x : Float) → isNan x ≡ true → x ≡ nan
+unfolding isNan
+is-nan nan e = refl
+is-nan (inf s) e = absurd (true≢false (sym e))
+is-nan (fin s m x) e = absurd (true≢false (sym e))
+
+pub pattern-nan : (b : ℕ) → 0x7ff0000000000000 < b % 0x8000000000000000 → div binary64 (ofBits binary64 0) (ofBits binary64 0) ≡ ofBits binary64 b
+unfolding div ofBits
+pattern-nan b h = sym (is-nan (ofBits binary64 b) (sym (nanBits-is binary64 b) ∙ nanBits-above binary64 b ∙ lt-ltb 0x7ff0000000000000 (b % 0x8000000000000000) h))
+
+pub pattern-number : (b : ℕ) → b % 0x8000000000000000 ≤ 0x7ff0000000000000 → T (not (nanBits binary64 b))
+pattern-number b h = subst (λ (t : Bool). T (not t)) (sym (nanBits-above binary64 b ∙ le-ltb 0x7ff0000000000000 (b % 0x8000000000000000) h)) tt
+
+-- ---- operations
+
+back : (x : Float) (a : ℕ) → fits binary64 x ≡ true → a ≡ toBits binary64 x → ofBits binary64 a ≡ x
+back x a f e = ap (ofBits binary64) e ∙ ofBits-toBits binary64 x (subst (λ (t : Bool). T t) (sym f) tt)
+
+-- a result y that fits, as a pattern w and as the float r
+result : (y r : Float) (w : ℕ) → T (fits binary64 y) → w ≡ toBits binary64 y → r ≡ ofBits binary64 w → r ≡ y
+result y r w f e g = g ∙ ap (ofBits binary64) e ∙ ofBits-toBits binary64 y f
+
+pub fused-floats : (d : Direction) (x y z r : Float) (a b c w : ℕ) → fits binary64 x ≡ true → fits binary64 y ≡ true → fits binary64 z ≡ true
+    → a ≡ toBits binary64 x → b ≡ toBits binary64 y → c ≡ toBits binary64 z → w ≡ fusedBits d a b c → r ≡ ofBits binary64 w → r ≡ fusedMultiplyAdd d x y z
+unfolding fusedBits
+fused-floats d x y z r a b c w fx fy fz ea eb ec ew er =
+    let u = ofBits binary64 a in
+    let v = ofBits binary64 b in
+    let t = ofBits binary64 c in
+    result (fusedMultiplyAdd d u v t) r w (fused-fits d u v t) ew er
+    ∙ ap₂ (λ (p : Float → Float) (q : Float). p q) (ap₂ (λ (p q : Float). fusedMultiplyAdd d p q) (back x a fx ea) (back y b fy eb)) (back z c fz ec)
+
+pub round-floats : (x r : Float) (a w : ℕ) → fits binary64 x ≡ true → a ≡ toBits binary64 x → w ≡ roundBits a → r ≡ ofBits binary64 w → r ≡ roundToIntegral Nearest x
+unfolding roundBits
+round-floats x r a w f ea ew er = let u = ofBits binary64 a in result (roundToIntegral Nearest u) r w (integral-fits Nearest u) ew er ∙ ap (roundToIntegral Nearest) (back x a f ea)
+
+pub floor-floats : (x r : Float) (a w : ℕ) → fits binary64 x ≡ true → a ≡ toBits binary64 x → w ≡ floorBits a → r ≡ ofBits binary64 w → r ≡ roundToIntegral Down x
+unfolding floorBits
+floor-floats x r a w f ea ew er = let u = ofBits binary64 a in result (roundToIntegral Down u) r w (integral-fits Down u) ew er ∙ ap (roundToIntegral Down) (back x a f ea)
+
+pub scale-floats : (n : ℤ) (x r : Float) (a w : ℕ) → fits binary64 x ≡ true → a ≡ toBits binary64 x → w ≡ scaleBits a n → r ≡ ofBits binary64 w → r ≡ scaleB Nearest x n
+unfolding scaleBits
+scale-floats n x r a w f ea ew er = let u = ofBits binary64 a in result (scaleB Nearest u n) r w (scale-fits Nearest n u) ew er ∙ ap (λ (v : Float). scaleB Nearest v n) (back x a f ea)

@@ -1,0 +1,3 @@
+-- Floats and their patterns, and that the operations give values that the format holds.
+mod Floats
+pub mod Fits

@@ -1,0 +1,1 @@
+-- The definitions that the contracts cite are those of the crate ieee754.

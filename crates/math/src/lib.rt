@@ -1,0 +1,55 @@
+// The operations of the crate ieee754 on f64, under the names of the math module that the port follows. Every call is
+// total, and its contract is an equation with the definition of the operation in ieee754's specs/Operations.antt.
+ghost use mathlib.Core.Path.{_≡_};
+ghost use lib.Ieee.{toBits, ofBits, binary64};
+ghost use Rattle.rounding.specs.declared.Direction.the-variants.{Nearest, Down};
+ghost use Rattle.ieee754.specs.Operations.{fusedMultiplyAdd, roundToIntegral, scaleB};
+use ieee754::parts::NAN;
+use rounding::INFINITY;
+use rounding::SIGN;
+
+// The pattern of x. The language's own conversions are undefined at a NaN, so that is tested for first.
+pub fn to_bits(x: f64) -> u64
+    ensures { λ r. ⌜ r ≡ toBits binary64 x ⌝ }
+{
+    if x != x { NAN } else { f64::to_bits(x) }
+}
+
+// The float of a pattern.
+pub fn from_bits(b: u64) -> f64
+    ensures { λ r. ⌜ r ≡ ofBits binary64 b ⌝ }
+{
+    if INFINITY < b % SIGN {
+        0.0 / 0.0
+    } else {
+        f64::from_bits(b)
+    }
+}
+
+// x * y + z, rounded once to nearest.
+pub fn fma(x: f64, y: f64, z: f64) -> f64
+    ensures { λ r. ⌜ r ≡ fusedMultiplyAdd Nearest x y z ⌝ }
+{
+    from_bits(ieee754::fused(to_bits(x), to_bits(y), to_bits(z)))
+}
+
+// The nearest whole number, a tie to the even one.
+pub fn roundeven(x: f64) -> f64
+    ensures { λ r. ⌜ r ≡ roundToIntegral Nearest x ⌝ }
+{
+    from_bits(ieee754::round(to_bits(x)))
+}
+
+// The greatest whole number not above x.
+pub fn floor(x: f64) -> f64
+    ensures { λ r. ⌜ r ≡ roundToIntegral Down x ⌝ }
+{
+    from_bits(ieee754::floor(to_bits(x)))
+}
+
+// x * 2^n, rounded once to nearest.
+pub fn ldexp(x: f64, n: i32) -> f64
+    ensures { λ r. ⌜ r ≡ scaleB Nearest x n ⌝ }
+{
+    from_bits(ieee754::scale(to_bits(x), n))
+}
