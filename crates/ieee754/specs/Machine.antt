@@ -18,6 +18,10 @@ signOf b = leb 0x8000000000000000 b
 abbrev pub magnitude : ℕ → ℕ
 magnitude b = b % 0x8000000000000000
 
+-- b is a pattern of a finite number that is not zero
+abbrev pub Regular : ℕ → Type 0
+Regular b = (0 < magnitude b) × (magnitude b < 0x7ff0000000000000)
+
 -- a significand of 53 digits, and an exponent in units of 2 ^ -1126
 pub record Normal (p : Parts) : Type 0 where
   pub low : 2 ^ 52 ≤ p .m

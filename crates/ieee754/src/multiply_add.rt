@@ -9,10 +9,10 @@ ghost use Rattle.wide.specs.Words.{value};
 ghost use Rattle.rounding.specs.declared.Direction.{Direction};
 ghost use Rattle.rounding.specs.Rounding.{roundTo};
 ghost use Rattle.ieee754.specs.Operations.{zeroSign, sumTo, plus, exactly, infinite, fusedBits};
-ghost use Rattle.ieee754.specs.Machine.{magnitude, Normal, Ready, productSize, addendSize, Addends};
+ghost use Rattle.ieee754.specs.Machine.{magnitude, Regular, Normal, Ready, productSize, addendSize, Addends};
 use crate::parts::NAN;
 use crate::parts::Parts;
-use crate::parts::is_normal;
+use crate::parts::is_regular;
 use crate::parts::negative;
 use crate::parts::read;
 use crate::parts::unlike_signs;
@@ -111,7 +111,7 @@ fn fused_parts(dir: Direction, s: bool, a: Parts, b: Parts, t: bool, c: Parts) -
 }
 
 fn fused_nonzero(dir: Direction, a: u64, b: u64, c: u64) -> u64
-    requires { ⌜ (0 < magnitude a) × (magnitude a < 0x7ff0000000000000) × (0 < magnitude b) × (magnitude b < 0x7ff0000000000000) × (0 < magnitude c) × (magnitude c < 0x7ff0000000000000) ⌝ }
+    requires { ⌜ Regular a × Regular b × Regular c ⌝ }
     ensures { λ r. ⌜ r ≡ fusedBits dir a b c ⌝ }
 {
     let s = unlike_signs(a, b);
@@ -130,7 +130,7 @@ fn product_parts(dir: Direction, s: bool, a: Parts, b: Parts) -> u64
 
 // a * b + c for finite a and b that are not zero, and a c that is.
 fn fused_zero_addend(dir: Direction, a: u64, b: u64, c: u64) -> u64
-    requires { ⌜ (0 < magnitude a) × (magnitude a < 0x7ff0000000000000) × (0 < magnitude b) × (magnitude b < 0x7ff0000000000000) × (magnitude c ≡ 0) ⌝ }
+    requires { ⌜ Regular a × Regular b × (magnitude c ≡ 0) ⌝ }
     ensures { λ r. ⌜ r ≡ fusedBits dir a b c ⌝ }
 {
     let s = unlike_signs(a, b);
@@ -149,9 +149,9 @@ fn zero_product(dir: Direction, s: bool, c: u64) -> u64
     if z == 0 { sign_bit(zero_sign(dir)) } else { c }
 }
 
-// a * b + c for finite a and b.
+// a * b + c for finite a and b, where one of the three is zero or c is not finite.
 fn fused_finite(dir: Direction, a: u64, b: u64, c: u64) -> u64
-    requires { ⌜ (magnitude a < 0x7ff0000000000000) × (magnitude b < 0x7ff0000000000000) ⌝ }
+    requires { ⌜ (magnitude a < 0x7ff0000000000000) × (magnitude b < 0x7ff0000000000000) × (Regular a → Regular b → Regular c → ⊥) ⌝ }
     ensures { λ r. ⌜ r ≡ fusedBits dir a b c ⌝ }
 {
     let x = a % SIGN;
@@ -169,10 +169,7 @@ fn fused_finite(dir: Direction, a: u64, b: u64, c: u64) -> u64
     if y == 0 {
         return zero_product(dir, unlike_signs(a, b), c);
     }
-    if z == 0 {
-        return fused_zero_addend(dir, a, b, c);
-    }
-    fused_nonzero(dir, a, b, c)
+    fused_zero_addend(dir, a, b, c)
 }
 
 // An infinite product with the sign s, plus c.
@@ -208,8 +205,9 @@ fn fused_infinite(a: u64, b: u64, c: u64) -> u64
     infinite_product(unlike_signs(a, b), c)
 }
 
-// a * b + c for any operands.
-fn fused_any(dir: Direction, a: u64, b: u64, c: u64) -> u64
+// a * b + c where one of the three is a zero, an infinity or a NaN.
+fn fused_special(dir: Direction, a: u64, b: u64, c: u64) -> u64
+    requires { ⌜ (Regular a → Regular b → Regular c → ⊥) ⌝ }
     ensures { λ r. ⌜ r ≡ fusedBits dir a b c ⌝ }
 {
     let x = a % SIGN;
@@ -229,16 +227,22 @@ fn fused_any(dir: Direction, a: u64, b: u64, c: u64) -> u64
     fused_finite(dir, a, b, c)
 }
 
-// a * b + c, rounded once in the direction. Normal operands, the usual ones, are told apart first.
+// a * b + c, rounded once in the direction. `fused_nonzero` has this one caller, so that the compiler puts it here and
+// knows the direction.
 pub fn fused_in(dir: Direction, a: u64, b: u64, c: u64) -> u64
     ensures { λ r. ⌜ r ≡ fusedBits dir a b c ⌝ }
 {
-    if is_normal(a) {
-        if is_normal(b) {
-            if is_normal(c) {
-                return fused_nonzero(dir, a, b, c);
+    if is_regular(a) {
+        if is_regular(b) {
+            if is_regular(c) {
+                fused_nonzero(dir, a, b, c)
+            } else {
+                fused_special(dir, a, b, c)
             }
+        } else {
+            fused_special(dir, a, b, c)
         }
+    } else {
+        fused_special(dir, a, b, c)
     }
-    fused_any(dir, a, b, c)
 }

@@ -3,7 +3,7 @@ ghost use mathlib.Core.Path.{_≡_};
 ghost use mathlib.Core.Bool.{true};
 ghost use Prim.Native.Nat.{_+_, _*_, _^_, _<_};
 ghost use lib.Ieee.{unlike};
-ghost use Rattle.ieee754.specs.Machine.{signOf, magnitude, Normal, Reads};
+ghost use Rattle.ieee754.specs.Machine.{signOf, Regular, Normal, Reads};
 use rounding::INFINITY;
 use rounding::LEADING;
 use rounding::SIGN;
@@ -30,12 +30,12 @@ pub fn unlike_signs(a: u64, b: u64) -> bool
     negative(a) != negative(b)
 }
 
-// Whether b is a normal number.
-pub fn is_normal(b: u64) -> bool
-    ensures { λ r. ⌜ (r ≡ true → (0 < magnitude b) × (magnitude b < 0x7ff0000000000000)) ⌝ }
+// Whether b is finite and not zero.
+pub fn is_regular(b: u64) -> bool
+    ensures { λ r. ⌜ (r ≡ true → Regular b) × (Regular b → r ≡ true) ⌝ }
 {
-    let field = b % SIGN / LEADING;
-    if field == 0 { false } else { field < 2047 }
+    let size = b % SIGN;
+    if size == 0 { false } else { size < INFINITY }
 }
 
 // The fraction of a subnormal number, shifted up to 53 digits.
@@ -50,9 +50,8 @@ fn read_subnormal(fraction: u64) -> Parts
     }
 }
 
-// The parts of a finite number that is not zero.
 pub fn read(b: u64) -> Parts
-    requires { ⌜ (0 < magnitude b) × (magnitude b < 0x7ff0000000000000) ⌝ }
+    requires { ⌜ Regular b ⌝ }
     ensures { λ r. ⌜ Reads b r ⌝ }
 {
     let field = b % SIGN / LEADING;

@@ -2,7 +2,7 @@
 ghost use mathlib.Core.Path.{_≡_};
 ghost use Prim.Native.Nat.{_+_, _*_, _^_, _≤_, _<_};
 ghost use lib.IntN.{pos, negsuc};
-ghost use Rattle.ieee754.specs.Machine.{magnitude};
+ghost use Rattle.ieee754.specs.Machine.{Regular};
 ghost use Rattle.ieee754.specs.Operations.{scaleBits};
 use crate::parts::NAN;
 use crate::parts::negative;
@@ -14,7 +14,7 @@ use rounding::round_pack;
 
 // x * 2^k, for a finite x that is not zero.
 fn scale_up(x: u64, k: u64) -> u64
-    requires { ⌜ (0 < magnitude x) × (magnitude x < 0x7ff0000000000000) × (k ≤ 2147483647) ⌝ }
+    requires { ⌜ Regular x × (k ≤ 2147483647) ⌝ }
     ensures { λ r. ⌜ r ≡ scaleBits x (pos k) ⌝ }
 {
     let neg = negative(x);
@@ -29,7 +29,7 @@ fn scale_up(x: u64, k: u64) -> u64
 
 // x / 2^(k + 1), for a finite x that is not zero.
 fn scale_down(x: u64, k: u64) -> u64
-    requires { ⌜ (0 < magnitude x) × (magnitude x < 0x7ff0000000000000) × (k ≤ 2147483647) ⌝ }
+    requires { ⌜ Regular x × (k ≤ 2147483647) ⌝ }
     ensures { λ r. ⌜ r ≡ scaleBits x (negsuc k) ⌝ }
 {
     let neg = negative(x);

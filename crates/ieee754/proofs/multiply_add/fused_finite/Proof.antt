@@ -1,16 +1,26 @@
 -- `ieee754::multiply_add::fused_finite` meets its contract. Assumes nothing.
-use mathlib.Core.Path.{sym, ap, _∙_}
+use mathlib.Core.Path.{_≡_, sym, ap, _∙_}
 use mathlib.Core.Bool.{Bool}
-use Prim.Native.Nat.{_*_, _^_}
+use Prim.Native.Nat.{ℕ, _*_, _^_, _≤_, _<_}
 use lib.Ieee.{Float, binary64, ofBits, toBits}
 use borrow.Author.Needs.{needs}
+use native.Mathlib.Omega.{arith}
 use Rattle.ieee754.specs.Operations.{product, plus, exactly}
-use Rattle.ieee754.specs.Machine.{signOf}
+use Rattle.ieee754.specs.Machine.{signOf, magnitude, Regular}
 use Rattle.ieee754.proofs.Reading.{Finite, units, finite, read-zero}
 use Rattle.ieee754.proofs.Products.{fused-is}
 use Rattle.ieee754.proofs.Special.{nan-c, inf-c, zero-left, zero-right}
 use Rattle.ieee754.proofs.multiply_add.fused_finite.Statement.{statement}
 use Rattle.ieee754.proofs.multiply_add.fused_finite.Tie as tie
+
+some : (x : ℕ) → (x ≡ 0 → ⊥) → 0 < x
+some x n = omega arith
+
+none : (x : ℕ) → (0 < x → ⊥) → x ≡ 0
+none x n = omega arith
+
+below : (x : ℕ) → x ≤ 0x7ff0000000000000 → (x ≡ 0x7ff0000000000000 → ⊥) → x < 0x7ff0000000000000
+below x h n = omega arith
 
 returns : tie.Need-returns
 returns c = let a = c .before .args in nan-c (a .dir) (a .a) (a .b) (a .c) (c .if1 .taken)
@@ -59,16 +69,17 @@ returns-4 c =
     ]
 
 fused-zero-addend-requires : tie.Need-fused-zero-addend-requires
-fused-zero-addend-requires c κs = search needs
+fused-zero-addend-requires c κs =
+    let e3 = c .before in
+    let e2 = e3 .before in
+    let s = e2 .before .before in
+    let a = s .args in
+    let x : Regular (a .a) = (some (magnitude (a .a)) (e3 .if3 .left), s .pre .0) in
+    let y : Regular (a .b) = (some (magnitude (a .b)) (c .if4 .left), s .pre .1) in
+    (x, y, none (magnitude (a .c)) (λ z. s .pre .2 x y (z, below (magnitude (a .c)) (e2 .before .if1 .left) (e2 .if2 .left))))
 
 returns-5 : tie.Need-returns-5
 returns-5 c = search needs
 
-fused-nonzero-requires : tie.Need-fused-nonzero-requires
-fused-nonzero-requires c κs = search needs
-
-returns-6 : tie.Need-returns-6
-returns-6 c = search needs
-
 pub fused-finite-spec : {M : Type 1} → statement M
-fused-finite-spec = tie.close (tie.spec returns returns-2 unlike-signs-requires zero-product-requires returns-3 unlike-signs-requires-2 zero-product-requires-2 returns-4 fused-zero-addend-requires returns-5 fused-nonzero-requires returns-6)
+fused-finite-spec = tie.close (tie.spec returns returns-2 unlike-signs-requires zero-product-requires returns-3 unlike-signs-requires-2 zero-product-requires-2 returns-4 fused-zero-addend-requires returns-5)

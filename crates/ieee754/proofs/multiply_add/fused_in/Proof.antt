@@ -1,35 +1,46 @@
 -- `ieee754::multiply_add::fused_in` meets its contract. Assumes nothing.
-use Prim.Native.Nat.{_<_}
+use mathlib.Core.Path.{_≡_, sym, _∙_}
+use mathlib.Core.Bool.{true≢false}
 use borrow.Author.Needs.{needs}
 use Rattle.ieee754.proofs.multiply_add.fused_in.Statement.{statement}
 use Rattle.ieee754.proofs.multiply_add.fused_in.Tie as tie
 
-is-normal-requires : tie.Need-is-normal-requires
-is-normal-requires c κs = search needs
+is-regular-requires : tie.Need-is-regular-requires
+is-regular-requires c κs = search needs
 
-is-normal-requires-2 : tie.Need-is-normal-requires-2
-is-normal-requires-2 c κs = search needs
+is-regular-requires-2 : tie.Need-is-regular-requires-2
+is-regular-requires-2 c κs = search needs
 
-is-normal-requires-3 : tie.Need-is-normal-requires-3
-is-normal-requires-3 c κs = search needs
+is-regular-requires-3 : tie.Need-is-regular-requires-3
+is-regular-requires-3 c κs = search needs
 
 fused-nonzero-requires : tie.Need-fused-nonzero-requires
 fused-nonzero-requires c κs =
-    let t2 = c .before .before in
+    let z = c .before in
+    let t2 = z .before in
     let t1 = t2 .before .before in
-    let a = t1 .before .is-normal .ensures (t1 .if1 .taken) in
-    let b = t2 .before .is-normal2 .ensures (t2 .if2 .taken) in
-    let z = c .before .is-normal3 .ensures (c .if3 .taken) in
-    (a .0, a .1, b .0, b .1, z .0, z .1)
+    (t1 .before .is-regular .ensures .0 (t1 .if1 .taken), t2 .before .is-regular2 .ensures .0 (t2 .if2 .taken), z .is-regular3 .ensures .0 (c .if3 .taken))
+
+fused-special-requires : tie.Need-fused-special-requires
+fused-special-requires c κs = λ x y z. true≢false (sym (c .before .is-regular3 .ensures .1 z) ∙ c .if3 .left)
+
+fused-special-requires-2 : tie.Need-fused-special-requires-2
+fused-special-requires-2 c κs = λ x y z. true≢false (sym (c .before .is-regular2 .ensures .1 y) ∙ c .if2 .left)
+
+fused-special-requires-3 : tie.Need-fused-special-requires-3
+fused-special-requires-3 c κs = λ x y z. true≢false (sym (c .before .is-regular .ensures .1 x) ∙ c .if1 .left)
 
 returns : tie.Need-returns
 returns c = search needs
 
-fused-any-requires : tie.Need-fused-any-requires
-fused-any-requires c κs = search needs
-
 returns-2 : tie.Need-returns-2
 returns-2 c = search needs
 
+returns-3 : tie.Need-returns-3
+returns-3 c = search needs
+
+returns-4 : tie.Need-returns-4
+returns-4 c = search needs
+
 pub fused-in-spec : {M : Type 1} → statement M
-fused-in-spec = tie.close (tie.spec is-normal-requires is-normal-requires-2 is-normal-requires-3 fused-nonzero-requires returns fused-any-requires returns-2)
+fused-in-spec = tie.close (tie.spec is-regular-requires is-regular-requires-2 is-regular-requires-3 fused-nonzero-requires fused-special-requires fused-special-requires-2 fused-special-requires-3 returns returns-2 returns-3 returns-4)

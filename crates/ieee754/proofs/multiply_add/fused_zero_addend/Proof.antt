@@ -38,7 +38,7 @@ returns c =
     exact-product (a .dir) (ofBits binary64 (a .a)) (ofBits binary64 (a .b)) (signOf (a .a)) (signOf (a .b)) (signOf (a .c)) (x .m * 2 ^ x .e) (y .m * 2 ^ y .e) (c .product-parts .result)
     (parts-pos x y (vx .normal) (vy .normal)) (vx .value) (vy .value)
     (λ A q Q p. c .product-parts .ensures A q Q (p ∙ ap (λ (z : ℕ). z * q) (product-parts x y)) ∙ ap (λ (t : Bool). toBits binary64 (roundTo (a .dir) binary64 t A q)) (u .unlike-signs .ensures))
-    ∙ ap (λ (v : Float). toBits binary64 (plus (a .dir) (product (ofBits binary64 (a .a)) (ofBits binary64 (a .b))) v)) (sym (read-zero (a .c) (s .pre .4)))
+    ∙ ap (λ (v : Float). toBits binary64 (plus (a .dir) (product (ofBits binary64 (a .a)) (ofBits binary64 (a .b))) v)) (sym (read-zero (a .c) (s .pre .2)))
     ∙ sym (fused-is (a .dir) (a .a) (a .b) (a .c))
 
 pub fused-zero-addend-spec : {M : Type 1} → statement M

@@ -32,13 +32,13 @@ cast-scale-down : tie.Need-cast-scale-down
 cast-scale-down c = let s = c .before .before .before .before in let g = going-down (s .args .n) (s .fits .n) (c .if4 .taken) in (g .steps .sign, g .steps .fits)
 
 scale-down-requires : tie.Need-scale-down-requires
-scale-down-requires c κs = let s = c .before .before .before .before in let g = going-down (s .args .n) (s .fits .n) (c .if4 .taken) in (some (magnitude (s .args .x)) (c .before .if3 .left), below (magnitude (s .args .x)) (c .before .before .before .if1 .left) (c .before .before .if2 .left), g .steps .small)
+scale-down-requires c κs = let s = c .before .before .before .before in let g = going-down (s .args .n) (s .fits .n) (c .if4 .taken) in ((some (magnitude (s .args .x)) (c .before .if3 .left), below (magnitude (s .args .x)) (c .before .before .before .if1 .left) (c .before .before .if2 .left)), g .steps .small)
 
 cast-scale-up : tie.Need-cast-scale-up
 cast-scale-up c = let s = c .before .before .before .before in let g = going-up (s .args .n) (s .fits .n) (c .if4 .left) in (g .steps .sign, g .steps .fits)
 
 scale-up-requires : tie.Need-scale-up-requires
-scale-up-requires c κs = let s = c .before .before .before .before in let g = going-up (s .args .n) (s .fits .n) (c .if4 .left) in (some (magnitude (s .args .x)) (c .before .if3 .left), below (magnitude (s .args .x)) (c .before .before .before .if1 .left) (c .before .before .if2 .left), g .steps .small)
+scale-up-requires c κs = let s = c .before .before .before .before in let g = going-up (s .args .n) (s .fits .n) (c .if4 .left) in ((some (magnitude (s .args .x)) (c .before .if3 .left), below (magnitude (s .args .x)) (c .before .before .before .if1 .left) (c .before .before .if2 .left)), g .steps .small)
 
 returns-4 : tie.Need-returns-4
 returns-4 c =

@@ -1,8 +1,8 @@
--- `ieee754::multiply_add::fused_any` meets its contract. Assumes nothing.
+-- `ieee754::multiply_add::fused_special` meets its contract. Assumes nothing.
 use borrow.Author.Needs.{needs}
 use Rattle.ieee754.proofs.Special.{nan-a, nan-b}
-use Rattle.ieee754.proofs.multiply_add.fused_any.Statement.{statement}
-use Rattle.ieee754.proofs.multiply_add.fused_any.Tie as tie
+use Rattle.ieee754.proofs.multiply_add.fused_special.Statement.{statement}
+use Rattle.ieee754.proofs.multiply_add.fused_special.Tie as tie
 
 returns : tie.Need-returns
 returns c = let a = c .before .args in nan-a (a .dir) (a .a) (a .b) (a .c) (c .if1 .taken)
@@ -28,5 +28,5 @@ fused-finite-requires c κs = search needs
 returns-5 : tie.Need-returns-5
 returns-5 c = search needs
 
-pub fused-any-spec : {M : Type 1} → statement M
-fused-any-spec = tie.close (tie.spec returns returns-2 fused-infinite-requires returns-3 fused-infinite-requires-2 returns-4 fused-finite-requires returns-5)
+pub fused-special-spec : {M : Type 1} → statement M
+fused-special-spec = tie.close (tie.spec returns returns-2 fused-infinite-requires returns-3 fused-infinite-requires-2 returns-4 fused-finite-requires returns-5)
