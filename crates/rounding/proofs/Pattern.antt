@@ -3,7 +3,7 @@
 use mathlib.Core.Path.{_≡_, refl, sym, ap, _∙_, subst}
 use mathlib.Core.Logic.{_⊎_, inl, inr, ⊎-elim}
 use Prim.Native.Nat.{ℕ, _+_, _-_, _*_, _/_, _^_, _≤_, _<_}
-use native.Mathlib.Nat.{le-refl, le-trans, le-of-eq, lt-of-lt-of-le, lt-of-not-le, not-le-of-lt, eq-or-lt-of-le, mul-one, mul-le-mul-right, mul-lt-mul-of-pos-right, mul-div-cancel, add-assoc, div-one}
+use native.Mathlib.Nat.{le-refl, le-trans, le-of-eq, le-of-lt, lt-of-lt-of-le, lt-of-not-le, not-le-of-lt, eq-or-lt-of-le, mul-one, mul-le-mul-right, mul-lt-mul-of-pos-right, mul-div-cancel, add-assoc, div-one}
 use native.Mathlib.Omega.{arith}
 use mathlib.Core.Bool.{Bool, true, false, cond}
 use lib.Dec.{ltb, lit<}
@@ -17,7 +17,7 @@ use Rattle.wide.proofs.Nat.{le-or-gt}
 use Rattle.rounding.specs.declared.Direction.{Direction}
 use Rattle.rounding.specs.declared.Direction.the-variants.{Nearest, TowardZero, Up, Down}
 use Rattle.rounding.specs.Rounding.{overflow, bounded}
-use Rattle.rounding.specs.Machine.{signBit, overflowBits, packed}
+use Rattle.rounding.specs.Machine.{signBit, overflowBits, boundedBits, packed}
 
 -- ---- the largest patterns
 
@@ -25,13 +25,19 @@ pub sign-le : (s : Bool) {x : ℕ} → x ≡ signBit s → x ≤ 0x8000000000000
 sign-le true e = omega arith
 sign-le false e = omega arith
 
-pub overflow-le : (d : Direction) (s : Bool) {x : ℕ} → x ≡ overflowBits d s → x ≤ 0x7ff0000000000000
+overflow-le : (d : Direction) (s : Bool) {x : ℕ} → x ≡ overflowBits d s → x ≤ 0x7ff0000000000000
 overflow-le Nearest s e = omega arith
 overflow-le TowardZero s e = omega arith
 overflow-le Up true e = omega arith
 overflow-le Up false e = omega arith
 overflow-le Down true e = omega arith
 overflow-le Down false e = omega arith
+
+pub bounded-le : (d : Direction) (s : Bool) (b : ℕ) {x : ℕ} → x ≡ boundedBits d s b → x ≤ 0x7ff0000000000000
+bounded-le d s b {x} e = ⊎-elim
+    (λ h. overflow-le d s (e ∙ ap (λ (t : Bool). cond t b (overflowBits d s)) (le-ltb b 0x7ff0000000000000 h)))
+    (λ h. le-of-lt (subst (λ (y : ℕ). y < 0x7ff0000000000000) (sym (e ∙ ap (λ (t : Bool). cond t b (overflowBits d s)) (lt-ltb b 0x7ff0000000000000 h))) h))
+    (le-or-gt 0x7ff0000000000000 b)
 
 -- ---- how many digits a number has
 

@@ -2,7 +2,7 @@
 -- Nothing here is part of what rounding means. Definitions only.
 use mathlib.Core.Path.{_≡_}
 use Prim.Native.Nat.{ℕ, suc, _+_, _-_, _*_, _^_, _<_}
-use mathlib.Core.Bool.{Bool, cond}
+use mathlib.Core.Bool.{Bool, true, false, not, cond}
 use lib.Dec.{ltb}
 use lib.Ieee.{toBits, binary64}
 use Rattle.wide.specs.Words.{jammed}
@@ -21,16 +21,29 @@ overflowBits TowardZero s = 0x7fefffffffffffff
 overflowBits Up s = cond s 0x7fefffffffffffff 0x7ff0000000000000
 overflowBits Down s = cond s 0x7ff0000000000000 0x7fefffffffffffff
 
--- the pattern of the sign s and the size b, which is an infinity's or more where the result overflows
+-- the size b of a result, which is an infinity's or more where it overflows; and the pattern of such a size and a sign
+abbrev pub boundedBits : Direction → Bool → ℕ → ℕ
+boundedBits d s b = cond (ltb b 0x7ff0000000000000) b (overflowBits d s)
+
 abbrev pub packed : Direction → Bool → ℕ → ℕ
-packed d s b = signBit s + cond (ltb b 0x7ff0000000000000) b (overflowBits d s)
+packed d s b = signBit s + boundedBits d s b
+
+abbrev pub toNearest : Direction → Bool
+toNearest Nearest = true
+toNearest TowardZero = false
+toNearest Up = false
+toNearest Down = false
+
+-- whether a directed rounding moves a size away from zero
+abbrev pub roundsAway : Direction → Bool → Bool
+roundsAway Nearest s = false
+roundsAway TowardZero s = false
+roundsAway Up s = not s
+roundsAway Down s = s
 
 -- what is added before the low k digits are cut off, so that a direction's whole number is left; odd is the last digit that stays
 abbrev pub increment : Direction → Bool → ℕ → ℕ → ℕ
-increment Nearest s odd k = 2 ^ (k - 1) - 1 + odd
-increment TowardZero s odd k = 0
-increment Up s odd k = cond s 0 (2 ^ k - 1)
-increment Down s odd k = cond s (2 ^ k - 1) 0
+increment d s odd k = cond (toNearest d) (2 ^ (k - 1) - 1 + odd) (cond (roundsAway d s) (2 ^ k - 1) 0)
 
 -- num / den, in units of 2 ^ -b, is a whole number, and m is what is left of it when e digits are cut off, with a sticky bit
 pub record Stands (b num den m e : ℕ) : Type 0 where

@@ -6,7 +6,7 @@ ghost use Prim.Native.Nat.{ℕ, _+_, _-_, _*_, _%_, _^_, _≤_, _<_};
 ghost use lib.Ieee.{toBits, binary64};
 ghost use Rattle.wide.specs.Words.{value};
 ghost use Rattle.rounding.specs.Rounding.{whole, roundTo};
-ghost use Rattle.rounding.specs.Machine.{signBit, overflowBits, packed, increment, Stands, Rounds};
+ghost use Rattle.rounding.specs.Machine.{signBit, overflowBits, boundedBits, packed, toNearest, roundsAway, increment, Stands, Rounds};
 use wide::Wide;
 
 // The rounding-direction attributes of 4.3.
@@ -43,15 +43,22 @@ fn overflow_bits(dir: Direction, neg: bool) -> u64
     }
 }
 
-// The pattern of a sign and a size, which is an infinity's or more where the result overflows.
+// The size of a result, which is an infinity's or more where it overflows.
+fn bound(dir: Direction, neg: bool, bits: u64) -> u64
+    ensures { λ r. ⌜ r ≡ boundedBits dir neg bits ⌝ }
+{
+    if bits < INFINITY {
+        bits
+    } else {
+        overflow_bits(dir, neg)
+    }
+}
+
+// The pattern of a sign and such a size.
 fn pack(dir: Direction, neg: bool, bits: u64) -> u64
     ensures { λ r. ⌜ r ≡ packed dir neg bits ⌝ }
 {
-    if bits < INFINITY {
-        sign_bit(neg) + bits
-    } else {
-        sign_bit(neg) + overflow_bits(dir, neg)
-    }
+    sign_bit(neg) + bound(dir, neg, bits)
 }
 
 // 2^k - 1.
@@ -62,16 +69,38 @@ fn ones(k: u64) -> u64
     (1 << k) - 1
 }
 
+fn to_nearest(dir: Direction) -> bool
+    ensures { λ r. ⌜ r ≡ toNearest dir ⌝ }
+{
+    match dir {
+        Direction::Nearest => true,
+        Direction::TowardZero => false,
+        Direction::Up => false,
+        Direction::Down => false,
+    }
+}
+
+// Whether a directed rounding moves a size away from zero.
+fn rounds_away(dir: Direction, neg: bool) -> bool
+    ensures { λ r. ⌜ r ≡ roundsAway dir neg ⌝ }
+{
+    match dir {
+        Direction::Nearest => false,
+        Direction::TowardZero => false,
+        Direction::Up => !neg,
+        Direction::Down => neg,
+    }
+}
+
+// Two tests and no `match` on the direction, which would become a jump table.
 fn rounding_increment(dir: Direction, neg: bool, odd: u64, k: u64) -> u64
     requires { ⌜ (1 ≤ k) × (k ≤ 63) × (odd ≤ 1) ⌝ }
     ensures { λ r. ⌜ r ≡ increment dir neg odd k ⌝ }
 {
-    match dir {
-        Direction::Nearest => ones(k - 1) + odd,
-        Direction::TowardZero => 0,
-        Direction::Up => if neg { 0 } else { ones(k) },
-        Direction::Down => if neg { ones(k) } else { 0 },
+    if to_nearest(dir) {
+        return ones(k - 1) + odd;
     }
+    if rounds_away(dir, neg) { ones(k) } else { 0 }
 }
 
 // m / 2^k as a whole number.
@@ -84,23 +113,31 @@ pub fn round_shift(dir: Direction, neg: bool, m: u64, k: u64) -> u64
     q + ((rest + rounding_increment(dir, neg, q % 2, k)) >> k)
 }
 
-// m * 2^e in units of 2^-2337, rounded and packed. The pattern is the quotient, plus a step of the exponent field for each
-// digit that is dropped beyond the 11 of the least normal number: a carry moves on into the field by itself.
+// m * 2^e in units of 2^-2337, rounded: the pattern without a sign, an infinity's or more where the result overflows.
+// It is the quotient, plus a step of the exponent field for each digit that is dropped beyond the 11 of the least normal
+// number, so that a carry moves on into the field by itself.
+fn round_bits(dir: Direction, neg: bool, m: u64, e: u64) -> u64
+    requires { ⌜ (2 ^ 63 ≤ m) × (e ≤ 4322) ⌝ }
+    ensures { λ r. ⌜ ((num den : ℕ) → Stands 2337 num den m e → toBits binary64 (roundTo dir binary64 neg num den) ≡ packed dir neg r) ⌝ }
+{
+    if 1252 <= e {
+        return (e - 1252) * LEADING + round_shift(dir, neg, m, 11);
+    }
+    let half = wide::set_sticky(m / 2, m % 2);
+    if 1199 <= e {
+        round_shift(dir, neg, half, 1262 - e)
+    } else {
+        // less than half of the smallest subnormal number
+        round_shift(dir, neg, 1, 63)
+    }
+}
+
+// m * 2^e in units of 2^-2337, rounded and packed.
 pub fn round_pack(dir: Direction, neg: bool, m: u64, e: u64) -> u64
     requires { ⌜ (2 ^ 63 ≤ m) × (e ≤ 4322) ⌝ }
     ensures { λ r. ⌜ ((num den : ℕ) → Stands 2337 num den m e → r ≡ toBits binary64 (roundTo dir binary64 neg num den)) ⌝ }
 {
-    if 1252 <= e {
-        let q = round_shift(dir, neg, m, 11);
-        return pack(dir, neg, (e - 1252) * LEADING + q);
-    }
-    let half = wide::set_sticky(m / 2, m % 2);
-    if 1199 <= e {
-        pack(dir, neg, round_shift(dir, neg, half, 1262 - e))
-    } else {
-        // less than half of the smallest subnormal number
-        pack(dir, neg, round_shift(dir, neg, 1, 63))
-    }
+    pack(dir, neg, round_bits(dir, neg, m, e))
 }
 
 // w * 2^e in units of 2^-2273, rounded and packed: its 64 leading digits are taken, and a sticky bit stands for the others.

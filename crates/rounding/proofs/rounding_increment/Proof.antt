@@ -1,24 +1,27 @@
 -- `rounding::rounding_increment` meets its contract. Assumes nothing.
 use mathlib.Core.Path.{_≡_, refl, sym, ap, ap₂, _∙_, subst}
 use Prim.Native.Nat.{ℕ, _+_, _-_, _^_, _<_}
-use mathlib.Core.Bool.{Bool, true, false}
+use mathlib.Core.Bool.{Bool, false, cond}
 use lib.Pow.{pow-mono}
 use native.Mathlib.Nat.{lt-of-lt-of-le}
 use borrow.Author.Needs.{needs}
 use native.Mathlib.Omega.{arith}
-use Rattle.rounding.specs.declared.Direction.{Direction}
-use Rattle.rounding.specs.Machine.{increment}
+use Rattle.rounding.specs.Machine.{toNearest, roundsAway, increment}
 use Rattle.rounding.proofs.Increment.{increment-lt}
 use Rattle.rounding.proofs.rounding_increment.Statement.{statement}
 use Rattle.rounding.proofs.rounding_increment.Tie as tie
 
 nearest : (c : tie.After-ones) → let a = c .before .before .before .args in c .ones .result + a .odd ≡ increment (a .dir) (a .neg) (a .odd) (a .k)
 nearest c =
-    let a = c .before .before .before .args in
-    ap (λ (x : ℕ). x + a .odd) (c .ones .ensures) ∙ sym (ap (λ (d : Direction). increment d (a .neg) (a .odd) (a .k)) (c .before .enum-told .given .1))
+    let t = c .before .before in
+    let a = t .before .args in
+    ap (λ (x : ℕ). x + a .odd) (c .ones .ensures) ∙ sym (ap (λ (b : Bool). cond b (2 ^ (a .k - 1) - 1 + a .odd) (cond (roundsAway (a .dir) (a .neg)) (2 ^ a .k - 1) 0)) (sym (t .to-nearest .ensures) ∙ c .before .if1 .taken))
 
-enum-told : tie.Need-enum-told
-enum-told c = search needs
+directed : (odd k : ℕ) (n w : Bool) → n ≡ false → cond n (2 ^ (k - 1) - 1 + odd) (cond w (2 ^ k - 1) 0) ≡ cond w (2 ^ k - 1) 0
+directed odd k n w e = ap (λ (b : Bool). cond b (2 ^ (k - 1) - 1 + odd) (cond w (2 ^ k - 1) 0)) e
+
+to-nearest-requires : tie.Need-to-nearest-requires
+to-nearest-requires c κs = search needs
 
 sub-ones : tie.Need-sub-ones
 sub-ones c = search needs
@@ -28,42 +31,31 @@ ones-requires c κs = search needs
 
 add-result : tie.Need-add-result
 add-result c =
-    let s = c .before .before .before in
-    let a = s .args in
+    let a = c .before .before .before .args in
     record { fits = subst (λ (x : ℕ). x < 2 ^ 64) (sym (nearest c)) (lt-of-lt-of-le (increment-lt (a .dir) (a .neg) (a .odd) (a .k) (omega arith) (omega arith)) (pow-mono {i = a .k} {j = 64} (omega arith))) }
-
-enum-told-2 : tie.Need-enum-told-2
-enum-told-2 c = search needs
-
-enum-told-3 : tie.Need-enum-told-3
-enum-told-3 c = search needs
-
-ones-requires-2 : tie.Need-ones-requires-2
-ones-requires-2 c κs = search needs
-
-enum-told-4 : tie.Need-enum-told-4
-enum-told-4 c = search needs
-
-ones-requires-3 : tie.Need-ones-requires-3
-ones-requires-3 c κs = search needs
 
 returns : tie.Need-returns
 returns c = nearest c
 
+rounds-away-requires : tie.Need-rounds-away-requires
+rounds-away-requires c κs = search needs
+
+ones-requires-2 : tie.Need-ones-requires-2
+ones-requires-2 c κs = search needs
+
 returns-2 : tie.Need-returns-2
-returns-2 c = search needs
+returns-2 c =
+    let r = c .before .before in
+    let t = r .before .before in
+    let a = t .before .args in
+    c .ones2 .ensures ∙ sym (directed (a .odd) (a .k) (toNearest (a .dir)) (roundsAway (a .dir) (a .neg)) (sym (t .to-nearest .ensures) ∙ r .before .if1 .left) ∙ ap (λ (b : Bool). cond b (2 ^ a .k - 1) 0) (sym (r .rounds-away .ensures) ∙ c .before .if2 .taken))
 
 returns-3 : tie.Need-returns-3
-returns-3 c = search needs
-
-returns-4 : tie.Need-returns-4
-returns-4 c = let s = c .before .before .before .before in c .ones2 .ensures ∙ sym (ap₂ (λ (d : Direction) (b : Bool). increment d b (s .args .odd) (s .args .k)) (c .before .before .enum-told3 .given .1) (c .before .if1 .left))
-
-returns-5 : tie.Need-returns-5
-returns-5 c = let s = c .before .before .before .before in c .ones3 .ensures ∙ sym (ap₂ (λ (d : Direction) (b : Bool). increment d b (s .args .odd) (s .args .k)) (c .before .before .enum-told4 .given .1) (c .before .if2 .taken))
-
-returns-6 : tie.Need-returns-6
-returns-6 c = search needs
+returns-3 c =
+    let r = c .before in
+    let t = r .before .before in
+    let a = t .before .args in
+    sym (directed (a .odd) (a .k) (toNearest (a .dir)) (roundsAway (a .dir) (a .neg)) (sym (t .to-nearest .ensures) ∙ r .before .if1 .left) ∙ ap (λ (b : Bool). cond b (2 ^ a .k - 1) 0) (sym (r .rounds-away .ensures) ∙ c .if2 .left))
 
 pub rounding-increment-spec : {M : Type 1} → statement M
-rounding-increment-spec = tie.close (tie.spec enum-told sub-ones ones-requires add-result enum-told-2 enum-told-3 ones-requires-2 enum-told-4 ones-requires-3 returns returns-2 returns-3 returns-4 returns-5 returns-6)
+rounding-increment-spec = tie.close (tie.spec to-nearest-requires sub-ones ones-requires add-result returns rounds-away-requires ones-requires-2 returns-2 returns-3)
