@@ -6,3 +6,4 @@ mod Special
 mod WholeNumbers
 mod Powers
 mod Exponent
+mod Examples
