@@ -1,7 +1,6 @@
 -- Worked examples of the definitions, computed: the corner cases of IEEE 754-2019 in the order of specs/Operations.antt. Assumes nothing.
 use mathlib.Core.Path.{_≡_, refl}
-use Prim.Native.Nat.{ℕ}
-use mathlib.Core.List.{List, [], _∷_}
+use mathlib.Core.List.{[], _∷_}
 use lib.IntN.{pos, negsuc}
 use Rattle.rounding.specs.declared.Direction.the-variants.{Nearest, TowardZero, Up, Down}
 use Rattle.ieee754.specs.Operations.{fusedBits, roundBits, floorBits, scaleBits}

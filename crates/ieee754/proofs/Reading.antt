@@ -2,7 +2,7 @@
 use mathlib.Core.Path.{_≡_, refl, sym, ap, ap₂, _∙_, subst}
 use mathlib.Core.Logic.{_⊎_, inl, inr, ⊎-elim}
 use Prim.Native.Nat.{ℕ, zero, suc, _+_, _-_, _*_, _/_, _%_, _^_, _≤_, _<_}
-use native.Mathlib.Nat.{mul-one, mul-comm, mul-assoc, mul-right-comm, add-zero, zero-mul, mul-pos, mod-eq-of-lt}
+use native.Mathlib.Nat.{mul-one, mul-comm, mul-assoc, mul-right-comm, add-zero, zero-mul, mul-pos}
 use native.Mathlib.Omega.{arith}
 use mathlib.Core.Bool.{Bool, true, false, cond}
 use lib.IntN.{pos}
@@ -17,7 +17,6 @@ use Rattle.rounding.specs.Rounding.{roundTo}
 use Rattle.rounding.specs.Machine.{signBit, overflowBits, packed}
 use Rattle.rounding.proofs.Place.{exact, Sits, wholeAt, whole-exact}
 use Rattle.rounding.proofs.Rounding.{bits-at}
-use Rattle.rounding.proofs.Leading.{Leads, Fills}
 use Rattle.ieee754.specs.Machine.{signOf, magnitude, Normal, Reads}
 use Rattle.ieee754.specs.declared.parts.Parts.{Parts}
 

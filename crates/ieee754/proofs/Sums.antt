@@ -10,7 +10,7 @@ use lib.IntN.{pos}
 use lib.Dec.{ltb, lit≤}
 use lib.Pow.{pow-add, pow-pos, pow-mono, add-lt-pow}
 use borrow.Author.Tests.{lt-ltb, le-ltb, ltb-true, ltb-false}
-use lib.Ieee.{Float, fin, binary64, toBits}
+use lib.Ieee.{fin, binary64, toBits}
 use Rattle.wide.specs.declared.Wide.{Wide}
 use Rattle.wide.specs.Words.{value, jammed}
 use Rattle.wide.proofs.Nat.{le-or-gt, sub-mul}

@@ -1,5 +1,5 @@
 -- Rounding to a whole number: what a shift of the significand leaves, and the numbers that are whole already. Assumes nothing.
-use mathlib.Core.Path.{_≡_, refl, sym, ap, ap₂, _∙_, subst}
+use mathlib.Core.Path.{_≡_, refl, sym, ap, ap₂, _∙_}
 use mathlib.Core.Logic.{_⊎_, inl, inr}
 use Prim.Native.Nat.{ℕ, _+_, _-_, _*_, _/_, _%_, _^_, _≤_, _<_}
 use native.Mathlib.Nat.{le-trans, le-of-eq, lt-of-lt-of-le, eq-or-lt-of-le, mul-one, mul-assoc, add-zero, zero-add, zero-mul, mul-pos, mul-lt-mul-of-pos-right}
@@ -14,7 +14,7 @@ use Rattle.rounding.specs.declared.Direction.{Direction}
 use Rattle.rounding.specs.declared.Direction.the-variants.{Nearest, Down}
 use Rattle.rounding.specs.Rounding.{whole, roundTo}
 use Rattle.rounding.specs.Machine.{Stands}
-use Rattle.rounding.proofs.Place.{exact, under, Sits, wholeAt, whole-at, whole-exact, whole-same}
+use Rattle.rounding.proofs.Place.{exact, under, Sits, whole-at, whole-exact, whole-same}
 use Rattle.ieee754.specs.Operations.{roundToIntegral, roundBits, floorBits}
 use Rattle.ieee754.specs.Machine.{signOf, magnitude}
 use Rattle.ieee754.proofs.Reading.{Units, Finite, units, finite, exact-bits, nan-bits, inf-back, read-nan, read-inf}

@@ -1,6 +1,6 @@
 // Scaling by a power of two. Exponents past those of every result are brought to a nearest bound, whose rounding is the same.
 ghost use mathlib.Core.Path.{_≡_};
-ghost use Prim.Native.Nat.{_+_, _*_, _^_, _≤_, _<_};
+ghost use Prim.Native.Nat.{_+_, _*_, _≤_, _<_};
 ghost use lib.IntN.{pos, negsuc};
 ghost use Rattle.ieee754.specs.Machine.{Regular};
 ghost use Rattle.ieee754.specs.Operations.{scaleBits};

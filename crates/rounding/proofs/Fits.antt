@@ -1,6 +1,6 @@
 -- What is rounded is a value that binary64 holds. Assumes nothing.
 use mathlib.Core.Path.{subst}
-use Prim.Native.Nat.{ℕ, suc, _-_, _*_, _/_, _%_, _^_, _≤_, _<_}
+use Prim.Native.Nat.{ℕ, _-_, _*_, _/_, _^_, _≤_, _<_}
 use native.Mathlib.Nat.{le-trans, lt-of-le-of-lt, mul-pos, div-div-eq-div-mul}
 use mathlib.Core.Bool.{Bool, true, false, cond}
 use lib.Dec.{T, ltb, ltb→lt, lit<}
@@ -9,7 +9,7 @@ use lib.Ieee.{Float, nan, inf, fin, binary64, size, odd, units, fits}
 use lib.Ieee.Fits.{odd-fits, inf-fits, kept-lt}
 use Rattle.rounding.specs.declared.Direction.{Direction}
 use Rattle.rounding.specs.declared.Direction.the-variants.{Nearest, TowardZero, Up, Down}
-use Rattle.rounding.specs.Rounding.{whole, largest, overflow, bounded, roundTo}
+use Rattle.rounding.specs.Rounding.{whole, overflow, bounded, roundTo}
 use Rattle.rounding.proofs.Place.{whole-next}
 
 units-fit : (s : Bool) (q k : ℕ) → q ≤ 2 ^ 53 → T (fits binary64 (units binary64 s q k))

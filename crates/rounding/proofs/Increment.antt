@@ -1,16 +1,15 @@
 -- `increment`, added to the digits that are cut off, carries exactly where the direction rounds up. Assumes nothing.
-use mathlib.Core.Path.{_≡_, refl, sym, ap, ap₂, _∙_, subst}
-use mathlib.Core.Logic.{_⊎_, inl, inr}
+use mathlib.Core.Path.{_≡_, sym, ap, _∙_, subst}
 use Prim.Native.Nat.{ℕ, zero, suc, _+_, _-_, _*_, _/_, _%_, _^_, _≤_, _<_, compare, Ordering, Ordering·lt, Ordering·eq, Ordering·gt}
-use native.Mathlib.Nat.{le-trans, lt-of-lt-of-le, mod-eq-of-lt, mod-lt, one-mul, add-zero, div-eq-of-lt, div-le-self}
+use native.Mathlib.Nat.{mod-eq-of-lt, mod-lt, one-mul, add-zero, div-eq-of-lt}
 use native.Mathlib.Numerals.{add-one}
 use native.Mathlib.Omega.{arith}
 use mathlib.Core.Bool.{Bool, true, false, cond}
 use lib.Dec.{eqb}
 use lib.Arith.{digits-div}
-use lib.Pow.{pow-add, pow-pos, pow-mono, pow-lt, add-lt-pow}
+use lib.Pow.{pow-add, pow-pos, pow-lt}
 use lib.Ieee.{nearest}
-use borrow.Author.Tests.{eq-eqb, ne-eqb}
+use borrow.Author.Tests.{ne-eqb}
 use Rattle.rounding.specs.declared.Direction.{Direction}
 use Rattle.rounding.specs.declared.Direction.the-variants.{Nearest, TowardZero, Up, Down}
 use Rattle.rounding.specs.Rounding.{whole}

@@ -7,7 +7,7 @@ use native.Mathlib.Nat.{le-refl, lt-of-lt-of-le, mul-comm, mul-assoc, mul-left-c
 use native.Mathlib.Numerals.{add-one}
 use native.Mathlib.Omega.{arith}
 use mathlib.Core.Bool.{Bool, true, false, not, cond}
-use lib.Dec.{T, isLe, isEq, eqb, leb, leb→le, nleb→lt, eqb→eq, eqb-refl}
+use lib.Dec.{T, isLe, isEq, eqb, leb→le, nleb→lt, eqb→eq, eqb-refl}
 use lib.Arith.{digits-div, digits-mod, lt-of-le-ne}
 use lib.Pow.{pow-pos, pow-mono, shr-lt}
 use lib.Ieee.{nearest}
@@ -16,7 +16,7 @@ use Rattle.wide.proofs.Nat.{next-mul}
 use Rattle.wide.proofs.Sticky.{Jam, just, near}
 use Rattle.rounding.specs.declared.Direction.{Direction}
 use Rattle.rounding.specs.declared.Direction.the-variants.{Nearest, TowardZero, Up, Down}
-use Rattle.rounding.specs.Rounding.{ceiling, whole}
+use Rattle.rounding.specs.Rounding.{whole}
 
 -- ---- what `compare` says
 

@@ -1,7 +1,7 @@
 -- What the functions of this crate say of each other: patterns with their signs, and significands that stand for exact sizes.
 -- Nothing here is part of what rounding means. Definitions only.
 use mathlib.Core.Path.{_≡_}
-use Prim.Native.Nat.{ℕ, suc, _+_, _-_, _*_, _^_, _<_}
+use Prim.Native.Nat.{ℕ, _+_, _-_, _*_, _^_, _<_}
 use mathlib.Core.Bool.{Bool, true, false, not, cond}
 use lib.Dec.{ltb}
 use lib.Ieee.{toBits, binary64}

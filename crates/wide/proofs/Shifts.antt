@@ -1,18 +1,18 @@
 -- The right shifts of a number in two words, with the sticky bit. Assumes nothing.
 use mathlib.Core.Path.{_≡_, refl, sym, ap, ap₂, _∙_, subst}
-use mathlib.Core.Logic.{_⊎_, inl, inr, ⊎-elim}
+use mathlib.Core.Logic.{_⊎_, inl, inr}
 use Prim.Native.Nat.{ℕ, zero, suc, _+_, _-_, _*_, _/_, _%_, _^_, _≤_, _<_}
-use native.Mathlib.Nat.{le-trans, le-of-eq, lt-of-lt-of-le, mul-one, one-mul, zero-mul, mul-comm, mul-assoc, mul-right-comm, add-mul, add-zero, zero-add, mul-pos, mod-lt, suc-mul, div-add-mod', mul-div-cancel, mul-mod-left, div-one}
+use native.Mathlib.Nat.{le-of-eq, lt-of-lt-of-le, mul-one, one-mul, zero-mul, mul-comm, mul-assoc, mul-right-comm, add-mul, zero-add, mod-lt, suc-mul, div-add-mod'}
 use native.Mathlib.Omega.{arith}
 use mathlib.Core.Bool.{Bool, true, false, cond}
 use lib.Dec.{ltb, eqb}
-use lib.Arith.{digits-div, digits-mod, digits-lt, mod-mul}
+use lib.Arith.{digits-div, digits-mod, digits-lt}
 use lib.Pow.{pow-add, pow-pos, pow-mono, shr-lt, mod-mod-pow}
 use borrow.Author.Tests.{lt-ltb, le-ltb}
 use Rattle.wide.specs.declared.Wide.{Wide}
 use Rattle.wide.specs.Words.{value, sticky, jammed}
 use Rattle.wide.proofs.Nat.{le-or-gt, mul-zero, shl}
-use Rattle.wide.proofs.Sticky.{Jam, just, near, sticky-rest, jam-of, jam-is, jam-jam, jam-exact, even-pow}
+use Rattle.wide.proofs.Sticky.{Jam, just, near, sticky-rest, jam-of, jam-is, jam-jam, even-pow}
 
 -- ---- a whole word
 

@@ -1,10 +1,10 @@
 -- Sums, differences and the order of numbers in two words, from those of the words. The word's base is a variable, W. Assumes nothing.
-use mathlib.Core.Path.{_≡_, refl, sym, ap, ap₂, _∙_}
+use mathlib.Core.Path.{_≡_, sym, ap, ap₂, _∙_}
 use mathlib.Core.Logic.{_⊎_, inl, inr}
-use Prim.Native.Nat.{ℕ, _+_, _*_, _/_, _%_, _^_, _≤_, _<_}
-use native.Mathlib.Nat.{add-mul, one-mul, add-zero, zero-add, mod-add-mod, add-mod-mod}
+use Prim.Native.Nat.{ℕ, _+_, _*_, _%_, _^_, _≤_, _<_}
+use native.Mathlib.Nat.{add-mul, one-mul, add-zero, zero-add, mod-add-mod}
 use native.Mathlib.Omega.{arith}
-use mathlib.Core.Bool.{Bool, true, false}
+use mathlib.Core.Bool.{false}
 use lib.Dec.{ltb, eqb}
 use lib.Arith.{digits-div, digits-mod, mod-mul}
 use borrow.Author.Tests.{lt-ltb, le-ltb, ne-eqb}

@@ -1,5 +1,4 @@
 -- `wide::shift_word` meets its contract. Assumes nothing.
-use native.Mathlib.Omega.{arith}
 use borrow.Author.Needs.{needs}
 use Rattle.wide.proofs.Shifts.{word-jammed}
 use Rattle.wide.proofs.shift_word.Statement.{statement}

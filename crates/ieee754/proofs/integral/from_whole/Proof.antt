@@ -1,5 +1,5 @@
 -- `ieee754::integral::from_whole` meets its contract. Assumes nothing.
-use mathlib.Core.Path.{_≡_, sym, _∙_, subst}
+use mathlib.Core.Path.{sym, _∙_, subst}
 use Prim.Native.Nat.{ℕ, _*_, _^_}
 use native.Mathlib.Nat.{mul-one, zero-add}
 use lib.Dec.{lit<}

@@ -3,7 +3,7 @@ use Prim.Native.Nat.{ℕ, _<_}
 use borrow.Author.Needs.{needs}
 use native.Mathlib.Omega.{arith}
 use Rattle.ieee754.specs.Machine.{magnitude}
-use Rattle.ieee754.proofs.Reading.{Finite, units, finite}
+use Rattle.ieee754.proofs.Reading.{units, finite}
 use Rattle.ieee754.proofs.WholeNumbers.{whole-nan, whole-large, whole-zero, whole-answer}
 use Rattle.ieee754.proofs.integral.integral_in.Statement.{statement}
 use Rattle.ieee754.proofs.integral.integral_in.Tie as tie

@@ -1,7 +1,7 @@
 -- `ieee754::multiply_add::align` meets its contract. The two are brought to the larger exponent; the order of a sum does not matter. Assumes nothing.
-use mathlib.Core.Path.{_≡_, refl, sym, ap, ap₂, _∙_, subst}
+use mathlib.Core.Path.{_≡_, refl, sym, ap₂, _∙_, subst}
 use mathlib.Core.Bool.{Bool, true, false, cond}
-use Prim.Native.Nat.{ℕ, _+_, _-_, _^_, _≤_, _<_}
+use Prim.Native.Nat.{ℕ, _-_, _^_, _≤_}
 use lib.Dec.{ltb}
 use lib.Ieee.{binary64, toBits}
 use borrow.Author.Needs.{needs}

@@ -7,7 +7,7 @@ use borrow.Author.Needs.{needs}
 use native.Mathlib.Omega.{arith}
 use Rattle.ieee754.specs.Operations.{product, plus, exactly}
 use Rattle.ieee754.specs.Machine.{signOf, magnitude, Regular}
-use Rattle.ieee754.proofs.Reading.{Finite, units, finite, read-zero}
+use Rattle.ieee754.proofs.Reading.{units, finite, read-zero}
 use Rattle.ieee754.proofs.Products.{fused-is}
 use Rattle.ieee754.proofs.Special.{nan-c, inf-c, zero-left, zero-right}
 use Rattle.ieee754.proofs.multiply_add.fused_finite.Statement.{statement}

@@ -1,5 +1,5 @@
 -- `ieee754::multiply_add::fused_in` meets its contract. Assumes nothing.
-use mathlib.Core.Path.{_≡_, sym, _∙_}
+use mathlib.Core.Path.{sym, _∙_}
 use mathlib.Core.Bool.{true≢false}
 use borrow.Author.Needs.{needs}
 use Rattle.ieee754.proofs.multiply_add.fused_in.Statement.{statement}

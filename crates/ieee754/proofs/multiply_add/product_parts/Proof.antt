@@ -1,6 +1,6 @@
 -- `ieee754::multiply_add::product_parts` meets its contract. Assumes nothing.
 use mathlib.Core.Path.{_≡_, sym, ap, _∙_}
-use Prim.Native.Nat.{ℕ, _+_, _*_, _^_, _≤_}
+use Prim.Native.Nat.{ℕ, _+_, _*_, _^_}
 use borrow.Author.Needs.{needs}
 use Rattle.wide.specs.Words.{value}
 use Rattle.ieee754.proofs.Sums.{ready-pos, stands-just}

@@ -1,5 +1,5 @@
 -- `ieee754::parts::is_regular` meets its contract. Assumes nothing.
-use mathlib.Core.Path.{_≡_, sym, _∙_}
+use mathlib.Core.Path.{_≡_, sym}
 use mathlib.Core.Bool.{true≢false}
 use Prim.Native.Nat.{ℕ, _%_, _<_}
 use borrow.Author.Tests.{ltb-true, lt-ltb}

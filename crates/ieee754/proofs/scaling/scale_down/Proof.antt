@@ -1,8 +1,8 @@
 -- `ieee754::scaling::scale_down` meets its contract. Assumes nothing.
 use mathlib.Core.Path.{_∙_, subst}
-use Prim.Native.Nat.{ℕ, _+_, _-_, _*_}
+use Prim.Native.Nat.{_+_, _-_, _*_}
 use mathlib.Core.Bool.{Bool}
-use lib.IntN.{pos, negsuc}
+use lib.IntN.{negsuc}
 use lib.Ieee.{ofBits, binary64}
 use borrow.Author.Needs.{needs}
 use Rattle.rounding.specs.declared.Direction.the-variants.{Nearest}
