@@ -1,6 +1,6 @@
 -- A number times a power of two: exactly, past every finite value, and below half of the smallest. Assumes nothing.
 use mathlib.Core.Path.{_≡_, refl, sym, ap, _∙_, subst}
-use mathlib.Core.Logic.{inl}
+use mathlib.Core.Logic.{inl, ⊎-elim}
 use Prim.Native.Nat.{ℕ, suc, _+_, _-_, _*_, _^_, _≤_, _<_}
 use native.Mathlib.Nat.{le-trans, le-of-eq, le-of-lt, lt-of-lt-of-le, lt-of-le-of-lt, mul-one, one-mul, mul-comm, mul-assoc, mul-left-comm, add-zero, zero-add, zero-mul, mul-pos, mul-le-mul-right, mul-le-mul-left, mul-lt-mul-of-pos-right, lt-of-mul-lt-mul-right}
 use native.Mathlib.Omega.{arith}
@@ -8,10 +8,11 @@ use mathlib.Core.Bool.{Bool, cond}
 use lib.IntN.{ℤ, pos, negsuc}
 use lib.Dec.{lit≤, lit<}
 use lib.Pow.{pow-add, pow-pos, pow-mono}
-use borrow.Author.Tests.{le-ltb}
+use borrow.Author.Tests.{lt-ltb, le-ltb}
 use lib.Ieee.{Float, nan, inf, fin, binary64, up, down, ofBits, toBits}
 use lib.Ieee.Exact.{HasValue}
 use lib.Ieee.Fits.{down-pos}
+use Rattle.wide.proofs.Nat.{le-or-gt}
 use Rattle.wide.proofs.Sticky.{just, jam-is}
 use Rattle.rounding.specs.declared.Direction.{Direction}
 use Rattle.rounding.specs.declared.Direction.the-variants.{Nearest}
@@ -20,7 +21,7 @@ use Rattle.rounding.specs.Machine.{signBit, overflowBits, packed, Stands}
 use Rattle.rounding.proofs.Place.{under, wholeAt, Sits}
 use Rattle.rounding.proofs.Rounding.{bits-at, bits-normal}
 use Rattle.ieee754.specs.Operations.{scaleB, scaleBits}
-use Rattle.ieee754.specs.Machine.{signOf, magnitude}
+use Rattle.ieee754.specs.Machine.{signOf, magnitude, scaledExponent}
 use Rattle.ieee754.proofs.Reading.{nan-bits, inf-back, pattern-back, zero-round, read-nan, read-inf, read-zero}
 
 pub scale-is : (a : ℕ) (n : ℤ) → toBits binary64 (scaleB Nearest (ofBits binary64 a) n) ≡ scaleBits a n
@@ -57,7 +58,7 @@ module _ (d : Direction) (s : Bool) (m e k r : ℕ) (lo : 2 ^ 52 ≤ m) (hi : m 
       spread : (m E D K p G : ℕ) → m * E * D * (K * (p * G)) ≡ m * p * (E * K * G) * (D * 1)
       spread m E D K p G = simp (mul-assoc, mul-comm, mul-left-comm, mul-one, one-mul)
 
-  pub up-answer : (v : Float) → HasValue v s (m * 2 ^ e) (2 ^ 1126) → Packs d s (m * 2048) (e + k + 1200) r → r ≡ toBits binary64 (scaleB d v (pos k))
+  up-answer : (v : Float) → HasValue v s (m * 2 ^ e) (2 ^ 1126) → Packs d s (m * 2048) (e + k + 1200) r → r ≡ toBits binary64 (scaleB d v (pos k))
   unfolding scaleB
   up-answer nan h f = absurd h
   up-answer (inf t) h f = absurd h
@@ -75,7 +76,7 @@ module _ (d : Direction) (s : Bool) (m e k r : ℕ) (lo : 2 ^ 52 ≤ m) (hi : m 
       past : (x c : ℕ) → 4000 ≤ x → 0x7ff0000000000000 ≤ (x - 1252) * 0x10000000000000 + c
       past x c h = omega arith
 
-  pub over-answer : (v : Float) → 4000 < e + k + 1200 → HasValue v s (m * 2 ^ e) (2 ^ 1126) → Packs d s (m * 2048) 4000 r → r ≡ toBits binary64 (scaleB d v (pos k))
+  over-answer : (v : Float) → 4000 < e + k + 1200 → HasValue v s (m * 2 ^ e) (2 ^ 1126) → Packs d s (m * 2048) 4000 r → r ≡ toBits binary64 (scaleB d v (pos k))
   unfolding scaleB
   over-answer nan l h f = absurd h
   over-answer (inf t) l h f = absurd h
@@ -110,7 +111,7 @@ module _ (d : Direction) (s : Bool) (m e k r : ℕ) (lo : 2 ^ 52 ≤ m) (hi : m 
       join : (e k : ℕ) → k ≤ e + 1199 → e + 1200 ≡ e + 1199 - k + suc k
       join e k l = omega arith
 
-  pub down-answer : (v : Float) → k ≤ e + 1199 → HasValue v s (m * 2 ^ e) (2 ^ 1126) → Packs d s (m * 2048) (e + 1199 - k) r → r ≡ toBits binary64 (scaleB d v (negsuc k))
+  down-answer : (v : Float) → k ≤ e + 1199 → HasValue v s (m * 2 ^ e) (2 ^ 1126) → Packs d s (m * 2048) (e + 1199 - k) r → r ≡ toBits binary64 (scaleB d v (negsuc k))
   unfolding scaleB
   down-answer nan l h f = absurd h
   down-answer (inf t) l h f = absurd h
@@ -132,7 +133,7 @@ module _ (d : Direction) (s : Bool) (m e k r : ℕ) (lo : 2 ^ 52 ≤ m) (hi : m 
       half : (x y : ℕ) → x * 2 < y → x < y
       half x y h = omega arith
 
-  pub tiny-answer : (v : Float) → e + 1199 < k → HasValue v s (m * 2 ^ e) (2 ^ 1126) → Packs d s (m * 2048) 0 r → r ≡ toBits binary64 (scaleB d v (negsuc k))
+  tiny-answer : (v : Float) → e + 1199 < k → HasValue v s (m * 2 ^ e) (2 ^ 1126) → Packs d s (m * 2048) 0 r → r ≡ toBits binary64 (scaleB d v (negsuc k))
   unfolding scaleB
   tiny-answer nan l h f = absurd h
   tiny-answer (inf t) l h f = absurd h
@@ -155,6 +156,43 @@ module _ (d : Direction) (s : Bool) (m e k r : ℕ) (lo : 2 ^ 52 ≤ m) (hi : m 
 
       least : m * 2048 * 2 ^ 0 * 2 ^ 1074 * 2 < 2 ^ 2337
       least = lt-of-lt-of-le (mul-lt-mul-of-pos-right (mul-lt-mul-of-pos-right (mul-lt-mul-of-pos-right (mul-lt-mul-of-pos-right hi (lit< tt)) (pow-pos 0)) (pow-pos 1074)) (lit< tt)) (lit≤ tt)
+
+-- ---- the exponent of `scaled_exponent`
+
+pub scaled-over : (e k : ℕ) → 4000 < e + k + 1200 → scaledExponent e (pos k) ≡ 4000
+scaled-over e k h = ap (λ (b : Bool). cond b 4000 (e + k + 1200)) (lt-ltb 4000 (e + k + 1200) h)
+
+pub scaled-up : (e k : ℕ) → e + k + 1200 ≤ 4000 → scaledExponent e (pos k) ≡ e + k + 1200
+scaled-up e k h = ap (λ (b : Bool). cond b 4000 (e + k + 1200)) (le-ltb 4000 (e + k + 1200) h)
+
+pub scaled-tiny : (e k : ℕ) → e + 1199 < k → scaledExponent e (negsuc k) ≡ 0
+scaled-tiny e k h = ap (λ (b : Bool). cond b 0 (e + 1199 - k)) (lt-ltb (e + 1199) k h)
+
+pub scaled-down : (e k : ℕ) → k ≤ e + 1199 → scaledExponent e (negsuc k) ≡ e + 1199 - k
+scaled-down e k h = ap (λ (b : Bool). cond b 0 (e + 1199 - k)) (le-ltb (e + 1199) k h)
+
+pub scaled-le : (e : ℕ) (n : ℤ) → e ≤ 2097 → scaledExponent e n ≤ 4322
+scaled-le e (pos k) E = ⊎-elim
+    (λ h. le-trans (le-of-eq (scaled-up e k h)) (le-trans h (lit≤ tt)))
+    (λ h. le-trans (le-of-eq (scaled-over e k h)) (lit≤ tt))
+    (le-or-gt (e + k + 1200) 4000)
+scaled-le e (negsuc k) E = ⊎-elim
+    (λ h. le-trans (le-of-eq (scaled-down e k h)) (few e k E))
+    (λ h. le-trans (le-of-eq (scaled-tiny e k h)) (lit≤ tt))
+    (le-or-gt k (e + 1199))
+  where
+    few : (e k : ℕ) → e ≤ 2097 → e + 1199 - k ≤ 4322
+    few e k h = omega arith
+
+pub scaled-answer : (d : Direction) (s : Bool) (m e r : ℕ) (n : ℤ) (v : Float) → 2 ^ 52 ≤ m → m < 2 ^ 53 → HasValue v s (m * 2 ^ e) (2 ^ 1126) → Packs d s (m * 2048) (scaledExponent e n) r → r ≡ toBits binary64 (scaleB d v n)
+scaled-answer d s m e r (pos k) v lo hi h f = ⊎-elim
+    (λ l. up-answer d s m e k r lo hi v h (subst (λ (x : ℕ). Packs d s (m * 2048) x r) (scaled-up e k l) f))
+    (λ l. over-answer d s m e k r lo hi v l h (subst (λ (x : ℕ). Packs d s (m * 2048) x r) (scaled-over e k l) f))
+    (le-or-gt (e + k + 1200) 4000)
+scaled-answer d s m e r (negsuc k) v lo hi h f = ⊎-elim
+    (λ l. down-answer d s m e k r lo hi v l h (subst (λ (x : ℕ). Packs d s (m * 2048) x r) (scaled-down e k l) f))
+    (λ l. tiny-answer d s m e k r lo hi v l h (subst (λ (x : ℕ). Packs d s (m * 2048) x r) (scaled-tiny e k l) f))
+    (le-or-gt k (e + 1199))
 
 -- ---- a zero, an infinity or a NaN
 

@@ -1,9 +1,10 @@
 -- What the functions of this crate say of each other. Nothing here is part of what an operation means. Definitions only.
 use mathlib.Core.Path.{_≡_}
 use mathlib.Core.Logic.{_⊎_}
-use Prim.Native.Nat.{ℕ, _+_, _*_, _%_, _^_, _≤_, _<_}
-use mathlib.Core.Bool.{Bool}
-use lib.Dec.{leb}
+use Prim.Native.Nat.{ℕ, _+_, _-_, _*_, _%_, _^_, _≤_, _<_}
+use mathlib.Core.Bool.{Bool, cond}
+use lib.IntN.{ℤ, pos, negsuc}
+use lib.Dec.{leb, ltb}
 use lib.Ieee.{ofBits, binary64}
 use lib.Ieee.Exact.{HasValue}
 use Rattle.rounding.specs.Machine.{Stands}
@@ -32,6 +33,11 @@ pub record Normal (p : Parts) : Type 0 where
 pub record Reads (b : ℕ) (p : Parts) : Type 0 where
   pub normal : Normal p
   pub value : HasValue (ofBits binary64 b) (signOf b) (p .m * 2 ^ p .e) (2 ^ 1126)
+
+-- the exponent e + n + 1200; past 0 and 4000 every rounding is the same
+abbrev pub scaledExponent : ℕ → ℤ → ℕ
+scaledExponent e (pos k) = cond (ltb 4000 (e + k + 1200)) 4000 (e + k + 1200)
+scaledExponent e (negsuc k) = cond (ltb (e + 1199) k) 0 (e + 1199 - k)
 
 -- ---- sums, in units of 2 ^ -2273
 

@@ -1,8 +1,7 @@
-// Scaling by a power of two. Exponents past those of every result are brought to a nearest bound, whose rounding is the same.
+// Scaling by a power of two. Exponents past those of every result are brought to a bound, whose rounding is the same.
 ghost use mathlib.Core.Path.{_≡_};
-ghost use Prim.Native.Nat.{_+_, _*_, _≤_, _<_};
-ghost use lib.IntN.{pos, negsuc};
-ghost use Rattle.ieee754.specs.Machine.{Regular};
+ghost use Prim.Native.Nat.{_≤_};
+ghost use Rattle.ieee754.specs.Machine.{Regular, scaledExponent};
 ghost use Rattle.ieee754.specs.Operations.{scaleBits};
 use crate::parts::NAN;
 use crate::parts::negative;
@@ -12,34 +11,32 @@ use rounding::INFINITY;
 use rounding::SIGN;
 use rounding::round_pack;
 
-// x * 2^k, for a finite x that is not zero.
-fn scale_up(x: u64, k: u64) -> u64
-    requires { ⌜ Regular x × (k ≤ 2147483647) ⌝ }
-    ensures { λ r. ⌜ r ≡ scaleBits x (pos k) ⌝ }
+// The exponent of a significand in units of 2^-2337, from e in units of 2^-1126 and 11 digits fewer.
+fn scaled_exponent(e: u64, n: i32) -> u64
+    requires { ⌜ e ≤ 2097 ⌝ }
+    ensures { λ r. ⌜ r ≡ scaledExponent e n ⌝ }
 {
-    let neg = negative(x);
-    let p = read(x);
-    let e = p.e + k + 1200;
-    if 4000 < e {
-        round_pack(Direction::Nearest, neg, p.m * 2048, 4000)
+    if n < 0 {
+        let k = (-1 - n) as u64;
+        if e + 1199 < k { 0 } else { e + 1199 - k }
     } else {
-        round_pack(Direction::Nearest, neg, p.m * 2048, e)
+        let k = n as u64;
+        if 4000 < e + k + 1200 {
+            4000
+        } else {
+            e + k + 1200
+        }
     }
 }
 
-// x / 2^(k + 1), for a finite x that is not zero.
-fn scale_down(x: u64, k: u64) -> u64
-    requires { ⌜ Regular x × (k ≤ 2147483647) ⌝ }
-    ensures { λ r. ⌜ r ≡ scaleBits x (negsuc k) ⌝ }
+fn scale_regular(x: u64, n: i32) -> u64
+    requires { ⌜ Regular x ⌝ }
+    ensures { λ r. ⌜ r ≡ scaleBits x n ⌝ }
 {
     let neg = negative(x);
     let p = read(x);
-    let e = p.e + 1199;
-    if e < k {
-        round_pack(Direction::Nearest, neg, p.m * 2048, 0)
-    } else {
-        round_pack(Direction::Nearest, neg, p.m * 2048, e - k)
-    }
+    let e = scaled_exponent(p.e, n);
+    round_pack(Direction::Nearest, neg, p.m * 2048, e)
 }
 
 // x * 2^n, rounded once to nearest.
@@ -56,9 +53,5 @@ pub fn scale_by(x: u64, n: i32) -> u64
     if m == 0 {
         return x;
     }
-    if n < 0 {
-        scale_down(x, (-1 - n) as u64)
-    } else {
-        scale_up(x, n as u64)
-    }
+    scale_regular(x, n)
 }
