@@ -1,0 +1,9 @@
+-- Why the pairs are exact, from whole numbers up to floats.
+pub mod Multiples
+pub mod Precision
+pub mod ErrorFree
+pub mod Signed
+pub mod Units
+pub mod TwoSum
+pub mod Nearest
+pub mod TwoProduct

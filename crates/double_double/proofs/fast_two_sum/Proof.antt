@@ -1,0 +1,18 @@
+-- `double_double::fast_two_sum` meets its contract: TwoSum has the exactness. Assumes nothing.
+use mathlib.Core.Path.{refl, sym, subst}
+use lib.Dec.{T}
+use lib.Ieee.{binary64}
+use Rattle.double_double.specs.Pairs.{fastTwoSum}
+use Rattle.double_double.proofs.TwoSum.{two-sum-exact}
+use Rattle.double_double.proofs.fast_two_sum.Statement.{statement}
+use Rattle.double_double.proofs.fast_two_sum.Tie as tie
+
+returns : tie.Need-returns
+unfolding fastTwoSum
+returns c = (
+  refl,
+  two-sum-exact binary64 (c .args .a) (c .args .b) (subst T (sym (c .good .0 .1)) tt) (subst T (sym (c .good .1 .0 .1)) tt),
+)
+
+pub fast-two-sum-spec : {M : Type 1} → statement M
+fast-two-sum-spec = tie.close (tie.spec returns)

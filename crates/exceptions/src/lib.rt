@@ -1,0 +1,94 @@
+// The exceptional cases of exp2m1, hard to round with double-double arithmetic, and their lookup.
+//
+// exception promises the reply of the entry of a stretch whose x equals the one asked for, or that there is no such entry
+// (specs/Lookup.antt). The entries are those of specs/Table.antt.
+
+mod table;
+
+use table::EXCEPTIONS;
+ghost use mathlib.Core.Path.{_≡_};
+ghost use Prim.Native.Nat.{_-_, _<_};
+ghost use Rattle.exceptions.specs.Table.{exceptions};
+ghost use Rattle.exceptions.specs.Lookup.{input, reply, start, end, scan, find, Finds, Part};
+
+// The stretches of the table: of step 5, and of step 8 with |x| <= 1/8 and with |x| > 1/8.
+pub enum Stretch {
+    First,
+    Tiny,
+    Wide,
+}
+
+pub enum Found {
+    Reply(f64),
+    Nothing,
+}
+
+// x of the entry i.
+fn input_at(table: &[f64; 624], i: usize) -> f64
+    requires { ⌜ (now table ≡ exceptions) × (i < 208) ⌝ }
+    ensures { λ r. ⌜ r ≡ input i ⌝ }
+{
+    table[i * 3]
+}
+
+// The rounded sum hi + lo of the entry i.
+fn reply_at(table: &[f64; 624], i: usize) -> f64
+    requires { ⌜ (now table ≡ exceptions) × (i < 208) ⌝ }
+    ensures { λ r. ⌜ r ≡ reply i ⌝ }
+{
+    let hi = table[i * 3 + 1];
+    let lo = table[i * 3 + 2];
+    hi + lo
+}
+
+// The reply for x from the entries first to past - 1 of the table, which are sorted by input value.
+fn lookup_exception(table: &[f64; 624], first: usize, past: usize, x: f64) -> Found
+    requires { ⌜ (now table ≡ exceptions) × Part first past ⌝ }
+    ensures { λ r. ⌜ r ≡ scan first (past - first) x ⌝ }
+{
+    if first >= past {
+        return Found::Nothing;
+    }
+    // Invariant: if x is an exceptional case, its entry is one of these
+    let middle = first + (past - first) / 2;
+    let input = input_at(table, middle);
+    if x == input {
+        return Found::Reply(reply_at(table, middle));
+    }
+    if x < input {
+        return lookup_exception(table, first, middle, x);
+    }
+    lookup_exception(table, middle + 1, past, x)
+}
+
+// The first entry of a stretch, and the one past its last.
+fn start_of(stretch: Stretch) -> usize
+    ensures { λ r. ⌜ r ≡ start stretch ⌝ }
+{
+    match stretch {
+        Stretch::First => 0,
+        Stretch::Tiny => 56,
+        Stretch::Wide => 115,
+    }
+}
+
+fn end_of(stretch: Stretch) -> usize
+    ensures { λ r. ⌜ r ≡ end stretch ⌝ }
+{
+    match stretch {
+        Stretch::First => 56,
+        Stretch::Tiny => 115,
+        Stretch::Wide => 208,
+    }
+}
+
+// The reply of the entry of the stretch whose x equals the given one.
+pub fn exception(stretch: Stretch, x: f64) -> Found
+    ensures { λ r. ⌜ r ≡ find stretch x ⌝ }
+    ensures exactly { λ r. ⌜ Finds stretch x r ⌝ }
+{
+    let table = EXCEPTIONS;
+    let first = start_of(stretch);
+    let past = end_of(stretch);
+    lookup_exception(&table, first, past, x)
+}

@@ -1,0 +1,151 @@
+-- `exp2m1::cr_exp2m1` meets its contract: Steps has each step by its tests. Assumes nothing.
+use mathlib.Core.Path.{_≡_, sym, ap, _∙_, subst}
+use mathlib.Core.Bool.{Bool, true, _&&_, cond}
+use Prim.Native.Nat.{ℕ, _%_, _^_, _≤_, _<_}
+use lib.Dec.{T, leb, eqb}
+use lib.Ieee.{Float, nan, binary64, add, eq, le, ofBits, toBits, nanBits, fits}
+use lib.Ieee.Fits.{and-r}
+use Rattle.rounding.specs.declared.Direction.the-variants.{Down}
+use Rattle.ieee754.specs.Operations.{roundToIntegral}
+use Rattle.double_double.specs.Pairs.{bits}
+use Rattle.exp2m1.specs.Range.{Bounded, Whole}
+use Rattle.exp2m1.specs.Phases.{exp2m1Scaled, exp2m1Whole}
+use Rattle.exp2m1.specs.Score.{isWhole, steps}
+use Rattle.exp2m1.proofs.Patterns.{nan-above, negative-number, bounded-between}
+use Rattle.exp2m1.proofs.Floor.{floor-whole}
+use Rattle.exp2m1.proofs.Steps.{step-1, step-2, step-3, step-4, step-5, step-6, step-7}
+use borrow.Author.Needs.{needs}
+use Rattle.exp2m1.proofs.cr_exp2m1.Statement.{statement}
+use Rattle.exp2m1.proofs.cr_exp2m1.Tie as tie
+
+-- what is shown of the bits that were read holds of the weight's bits
+by-bits : (x : Float) {u v : ℕ} {r : Float} → u ≡ v → steps u x ≡ r → r ≡ steps v x
+by-bits x e h = sym h ∙ ap (λ (n : ℕ). steps n x) e
+
+held : (c : tie.Start) → T (fits binary64 (c .args .x))
+held c = subst T (sym (c .good .0 .1)) tt
+
+returns : tie.Need-returns
+returns c =
+    let c1 = c .before in
+    let s = c1 .before in
+    let e = c1 .to-bits .ensures in
+    let n = negative-number (s .args .x) (held s) (subst (λ (u : ℕ). 0xc04b000000000000 ≤ u) e (c .if1 .taken)) in
+    by-bits _ e (step-2 _ _ (subst (λ (u : ℕ). u % 2 ^ 63 ≤ 0x7ff0000000000000) (sym e) n) (c .if1 .taken))
+
+nan-sum : {x : Float} → x ≡ nan → bits 0x7ff8000000000000 ≡ add binary64 x x
+unfolding add ofBits
+nan-sum h = ap (λ (y : Float). add binary64 y y) (sym h)
+
+returns-2 : tie.Need-returns-2
+returns-2 c =
+    let c3 = c .before .before .before in
+    let s = c3 .before in
+    let e = c3 .to-bits .ensures in
+    by-bits _ e (step-1 _ _ (c .if3 .taken) ∙ nan-sum (nan-above (s .args .x) (held s) (subst (λ (u : ℕ). 0x7ff0000000000000 < u % 2 ^ 63) e (c .if3 .taken))))
+
+float-from-bits-result : tie.Need-float-from-bits-result
+unfolding nanBits
+float-from-bits-result c = tt
+
+returns-3 : tie.Need-returns-3
+returns-3 c = by-bits _ (c .before .before .before .to-bits .ensures) (step-3 _ _ (c .if3 .left) (c .before .before .if1 .left) (c .before .if2 .taken))
+
+returns-4 : tie.Need-returns-4
+returns-4 c =
+    let c1 = c .before in
+    let c2 = c1 .before in
+    let c3 = c2 .before in
+    let x = c3 .before .before .args .x in
+    by-bits x (c3 .before .to-bits .ensures) (step-4 _ _ (c3 .if1 .left) (c2 .if2 .left) (c1 .if4 .taken) ∙ ap (λ (t : Bool). cond t x (exp2m1Scaled x)) (c .if5 .taken))
+
+returns-5 : tie.Need-returns-5
+returns-5 c =
+    let c1 = c .before in
+    let c2 = c1 .before in
+    let c3 = c2 .before in
+    let c4 = c3 .before in
+    let x = c4 .before .before .args .x in
+    by-bits x (c4 .before .to-bits .ensures)
+    (step-4 _ _ (c4 .if1 .left) (c3 .if2 .left) (c2 .if4 .taken) ∙ ap (λ (t : Bool). cond t x (exp2m1Scaled x)) (c1 .if5 .left) ∙ sym (c .exp2m1-scaled .ensures))
+
+returns-6 : tie.Need-returns-6
+returns-6 c =
+    let c1 = c .before in
+    let c2 = c1 .before in
+    let c3 = c2 .before in
+    let c4 = c3 .before in
+    by-bits _ (c4 .before .to-bits .ensures) (step-5 _ _ (c4 .if1 .left) (c3 .if2 .left) (c2 .if4 .left) (c1 .if6 .taken) ∙ sym (c .exp2m1-small .ensures))
+
+-- ---- step 6
+bounded : (x : Float) {u : ℕ} → u ≡ toBits binary64 x → u < 0xc04b000000000000 → u % 2 ^ 63 < 0x4090000000000000 → Bounded x
+bounded x e d l = record { deep = subst (λ (n : ℕ). n < 0xc04b000000000000) e d; large = subst (λ (n : ℕ). n % 2 ^ 63 < 0x4090000000000000) e l }
+
+last-test : (u : ℕ) (x : Float) → isWhole u x ≡ true → T (le (roundToIntegral Down x) (bits 0x404a800000000000))
+unfolding isWhole
+last-test u x h =
+    let i = roundToIntegral Down x in
+    let a : Bool = eqb (u % 2 ^ 47) 0 in
+    let b : Bool = eq x i in
+    let d : Bool = le (bits 0xc04a800000000000) i in
+    let g : Bool = le i (bits 0x404a800000000000) in
+    and-r d g (and-r b (d && g) (and-r a (b && (d && g)) (subst T (sym h) tt)))
+
+exp2m1-whole-requires : tie.Need-exp2m1-whole-requires
+exp2m1-whole-requires c κs =
+    let c1 = c .before in
+    let c2 = c1 .before in
+    let c3 = c2 .before in
+    let c5 = c3 .before .before in
+    let c7 = c5 .before .before in
+    let s = c7 .before in
+    let e = c7 .to-bits .ensures in
+    let r = bounded-between 0x3cc0527dbd87e24d (s .args .x) (held s) (bounded _ e (c5 .before .if1 .left) (c5 .if2 .left)) (subst (λ (u : ℕ). 0x3cc0527dbd87e24d < u % 2 ^ 63) e (c3 .if6 .left)) in
+    subst (λ (i : Float). Whole i) (sym (c .floor .ensures)) (floor-whole (s .args .x) r (last-test _ (s .args .x) (sym (c2 .is-whole .ensures) ∙ c1 .if7 .taken)))
+
+returns-7 : tie.Need-returns-7
+returns-7 c =
+    let c2 = c .before .before in
+    let c3 = c2 .before in
+    let c4 = c3 .before in
+    let c6 = c4 .before .before in
+    let c7 = c6 .before in
+    by-bits _ (c7 .before .to-bits .ensures)
+    (step-6 _ _ (c7 .if1 .left) (c6 .if2 .left) (c4 .if6 .left) (sym (c3 .is-whole .ensures) ∙ c2 .if7 .taken) ∙ sym (c .exp2m1-whole .ensures ∙ ap exp2m1Whole (c .before .floor .ensures)))
+
+-- ---- steps 7 and 8
+exp2m1-phases-requires : tie.Need-exp2m1-phases-requires
+exp2m1-phases-requires c κs =
+    let c4 = c .before .before .before .before in
+    let e = c4 .before .before .to-bits .ensures in
+    (bounded _ e (c4 .before .if1 .left) (c4 .if2 .left), ap (λ (u : ℕ). leb (u % 2 ^ 63) 0x3fc0000000000000) e)
+
+returns-8 : tie.Need-returns-8
+returns-8 c =
+    let c1 = c .before in
+    let c2 = c1 .before in
+    let c3 = c2 .before in
+    let c5 = c3 .before .before in
+    let c6 = c5 .before in
+    by-bits _ (c6 .before .to-bits .ensures) (step-7 _ _ (c6 .if1 .left) (c5 .if2 .left) (c3 .if6 .left) (sym (c2 .is-whole .ensures) ∙ c1 .if7 .left) ∙ sym (c .exp2m1-phases .ensures))
+
+pub cr-exp2m1-spec : {M : Type 1} → statement M
+cr-exp2m1-spec =
+    tie.close
+    (tie.spec
+    (λ c κs. search needs)
+    returns
+    returns-2
+    float-from-bits-result
+    returns-3
+    returns-4
+    (λ c κs. search needs)
+    returns-5
+    (λ c κs. search needs)
+    returns-6
+    (λ c κs. search needs)
+    (λ c κs. search needs)
+    exp2m1-whole-requires
+    returns-7
+    exp2m1-phases-requires
+    returns-8)

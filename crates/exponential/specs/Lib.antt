@@ -1,0 +1,4 @@
+-- What the contracts of this crate say.
+pub mod Constants
+pub mod Exponential
+pub mod Range
