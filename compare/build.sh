@@ -1,11 +1,16 @@
 #!/bin/sh
-# Builds target/compare/compare. Run in the repository's root, after `rt staticlib capi`.
-# musl's software fma is linked under another name where Debian's package musl-dev is installed.
+# Builds target/compare/compare. Run in the repository's root, after `rt staticlib capi`:
+#     compare/build.sh [SOURCE]
+# SOURCE is the folder of the Rust source, ../shared/docs/src where none is given. Where it is there, the Rust exp2m1 is built
+# from it unchanged. musl's software fma is linked under another name where Debian's package musl-dev is installed, and MPFR where
+# libmpfr-dev is.
 set -eu
 out=target/compare
+source=${1:-../shared/docs/src}
 musl=/usr/lib/x86_64-linux-musl/libc.a
 mkdir -p "$out"
 set --
+
 if [ -f "$musl" ]; then
     rename='--redefine-sym fma=musl_fma --redefine-sym scalbn=musl_scalbn'
     for member in fma.lo scalbn.lo; do
@@ -20,5 +25,32 @@ if [ -f "$musl" ]; then
         set -- --cfg musl_fma
     fi
 fi
-rustc --edition 2024 -O -D warnings --check-cfg 'cfg(musl_fma)' "$@" \
-    -L native=target/staticlib -L native="$out" -o "$out/compare" compare/src/main.rs
+
+compile() {
+    rustc --edition 2024 -O -D warnings --check-cfg 'cfg(musl_fma, exp2m1, mpfr)' -L "$out" "$@"
+}
+
+compile "$@" --crate-type rlib --crate-name ffi -L native=target/staticlib --out-dir "$out" compare/ffi.rs
+
+# The Rust exp2m1 over each fma, as a crate of its own.
+exp2m1() {
+    compile -A unexpected_cfgs --cfg "fma=\"$1\"" \
+        --crate-type rlib --crate-name "exp2m1_$1" --extern ffi --out-dir "$out" compare/libm/lib.rs
+}
+
+if [ -f "$source/libm/src/math/exp2m1.rs" ]; then
+    ln -sfn "$(cd "$source" && pwd)" "$out/source"
+    exp2m1 machine
+    exp2m1 weigher
+    if [ $# -gt 0 ]; then
+        exp2m1 musl
+        set -- "$@" --extern exp2m1_musl
+    fi
+    set -- "$@" --cfg exp2m1 --extern exp2m1_machine --extern exp2m1_weigher
+fi
+
+if grep -qs mpfr_exp2m1 /usr/include/mpfr.h; then
+    set -- "$@" --cfg mpfr
+fi
+
+compile "$@" --extern ffi -o "$out/compare" compare/src/main.rs

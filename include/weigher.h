@@ -25,6 +25,9 @@ uint64_t weigher_floor(uint64_t x);
 /* x * 2^n, rounded once. A zero or infinite result has the sign of x. */
 uint64_t weigher_scale(uint64_t x, int32_t n);
 
+/* 2^x - 1, the score of the weight x. */
+uint64_t weigher_score(uint64_t x);
+
 #ifdef __cplusplus
 }
 #endif

@@ -1,16 +1,19 @@
-//! Times the weigher's operations beside the machine's and musl's.
+//! Times the weigher's operations beside the machine's, musl's and the Rust exp2m1.
 //!
 //! Each is called through a function pointer that the compiler does not see through, on the same operands, in turn.
 
 use std::hint::black_box;
 use std::time::Instant;
 
-use crate::ffi;
 use crate::random::Random;
-use crate::values::{SIGN, uniform};
+use crate::rust;
+use crate::values::{SIGN, linear, uniform};
 
 const OPERANDS: usize = 4096;
 const ROUNDS: usize = 2000;
+
+/// Rounds of the score, each call of which takes longer.
+const SCORE_ROUNDS: usize = 200;
 
 type Three = (u64, u64, u64);
 
@@ -31,13 +34,27 @@ pub fn run() {
     }
 
     let operands = prepare(|| one(random, -2, 54));
-    let ways = whole_ways(ffi::weigher_round, f64::round_ties_even);
+    let ways = ways_of_one(ffi::weigher_round, &[("machine", f64::round_ties_even)]);
     time("round, exponents from -2 to 54", &operands, &ways);
-    let ways = whole_ways(ffi::weigher_floor, f64::floor);
+    let ways = ways_of_one(ffi::weigher_floor, &[("machine", f64::floor)]);
     time("floor, exponents from -2 to 54", &operands, &ways);
 
     let operands = prepare(|| (one(random, -40, 40), random.between(-100, 100) as i32));
     time("scale, n from -100 to 100", &operands, &scale_ways());
+    score(random);
+}
+
+fn score(random: &mut Random) {
+    let ways = ways_of_one(ffi::weigher_score, rust::INSTANCES);
+    let operands = prepare(|| linear(random, -50.0, 50.0));
+    let title = "score, weights from -50 to 50";
+    time_rounds(SCORE_ROUNDS, title, &operands, &ways);
+    let operands = prepare(|| one(random, -60, -4));
+    let title = "score, sizes from 2^-60 to 2^-3";
+    time_rounds(SCORE_ROUNDS, title, &operands, &ways);
+    if rust::INSTANCES.is_empty() {
+        println!("the Rust exp2m1: its source was not there");
+    }
 }
 
 fn prepare<T>(operand: impl FnMut() -> T) -> Vec<T> {
@@ -87,12 +104,17 @@ fn musl_way() -> Way<Three> {
     })
 }
 
-fn whole_ways(weigher: extern "C" fn(u64) -> u64, machine: fn(f64) -> f64) -> [Way<u64>; 2] {
-    let (weigher, machine) = (black_box(weigher), black_box(machine));
-    [
-        way("weigher", move |&x| weigher(x)),
-        way("machine", move |&x| machine(f64::from_bits(x)).to_bits()),
-    ]
+fn ways_of_one(
+    weigher: extern "C" fn(u64) -> u64,
+    others: &[(&'static str, fn(f64) -> f64)],
+) -> Vec<Way<u64>> {
+    let weigher = black_box(weigher);
+    let mut ways = vec![way("weigher", move |&x| weigher(x))];
+    ways.extend(others.iter().map(|&(name, other)| {
+        let other = black_box(other);
+        way(name, move |&x| other(f64::from_bits(x)).to_bits())
+    }));
+    ways
 }
 
 fn scale_ways() -> [Way<(u64, i32)>; 2] {
@@ -106,10 +128,14 @@ fn scale_ways() -> [Way<(u64, i32)>; 2] {
     ]
 }
 
-/// Prints the least time of a call in any round for each way, and the ratio of the first way's to each other's.
 fn time<T>(title: &str, operands: &[T], ways: &[Way<T>]) {
+    time_rounds(ROUNDS, title, operands, ways);
+}
+
+/// Prints the least time of a call in any round for each way, and the ratio of the first way's to each other's.
+fn time_rounds<T>(rounds: usize, title: &str, operands: &[T], ways: &[Way<T>]) {
     let mut least = vec![f64::INFINITY; ways.len()];
-    for _ in 0..ROUNDS {
+    for _ in 0..rounds {
         for ((_, round), least) in ways.iter().zip(&mut least) {
             let start = Instant::now();
             black_box(round(black_box(operands)));
@@ -117,9 +143,9 @@ fn time<T>(title: &str, operands: &[T], ways: &[Way<T>]) {
         }
     }
     println!("{title}");
-    println!("  {:8} {:6.2} ns", ways[0].0, least[0]);
+    println!("  {:23} {:7.2} ns", ways[0].0, least[0]);
     for ((name, _), ns) in ways.iter().zip(&least).skip(1) {
         let ratio = least[0] / ns;
-        println!("  {name:8} {ns:6.2} ns, {} / {name} {ratio:.2}", ways[0].0);
+        println!("  {name:23} {ns:7.2} ns, {} / this {ratio:.2}", ways[0].0);
     }
 }

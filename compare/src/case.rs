@@ -1,8 +1,8 @@
-//! One call of an operation, answered by the weigher or by the machine.
+//! One call of an operation, answered by the weigher and by what it is compared with.
 
 use std::fmt;
 
-use crate::{ffi, machine};
+use crate::{machine, rust};
 
 /// An operation with its operands. Floats are bit patterns.
 #[derive(Clone, Copy)]
@@ -11,6 +11,7 @@ pub enum Case {
     Round(u64),
     Floor(u64),
     Scale(u64, i32),
+    Score(u64),
 }
 
 impl Case {
@@ -20,15 +21,18 @@ impl Case {
             Case::Round(x) => ffi::weigher_round(x),
             Case::Floor(x) => ffi::weigher_floor(x),
             Case::Scale(x, n) => ffi::weigher_scale(x, n),
+            Case::Score(x) => ffi::weigher_score(x),
         }
     }
 
-    pub fn machine(self) -> u64 {
+    /// The machine's answer, or the Rust exp2m1's.
+    pub fn reference(self) -> u64 {
         match self {
             Case::Fused(a, b, c) => machine::fused(a, b, c),
             Case::Round(x) => machine::round(x),
             Case::Floor(x) => machine::floor(x),
             Case::Scale(x, n) => machine::scale(x, n),
+            Case::Score(x) => rust::score(x),
         }
     }
 }
@@ -41,6 +45,7 @@ impl fmt::Display for Case {
             Case::Round(x) => write!(f, "round {x:016x}"),
             Case::Floor(x) => write!(f, "floor {x:016x}"),
             Case::Scale(x, n) => write!(f, "scale {x:016x} {n:08x}"),
+            Case::Score(x) => write!(f, "score {x:016x}"),
         }
     }
 }

@@ -1,8 +1,6 @@
 //! The machine's own operations on bit patterns. At the default target `mul_add`, `round_ties_even` and `floor` call the
 //! platform's libm.
 
-use crate::ffi;
-
 /// The pattern of every NaN result.
 const NAN: u64 = 0x7ff8000000000000;
 

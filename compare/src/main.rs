@@ -1,35 +1,56 @@
-//! The weigher's operations beside the machine's: test vectors, comparisons and timings (see README.md).
+//! The weigher's operations beside the machine's, the Rust exp2m1 and MPFR: test vectors, comparisons and timings (see README.md).
 
 mod bench;
 mod case;
 mod cases;
-mod ffi;
 mod machine;
+#[cfg(mpfr)]
+mod mpfr;
 mod random;
 mod run;
+mod rust;
+mod score;
 mod values;
 mod vectors;
 
 use std::env;
+use std::io;
 use std::process::ExitCode;
 
-const USAGE: &str = "usage: compare vectors | compare run [MILLIONS] | compare bench";
+const USAGE: &str = "usage: compare run [MILLIONS] | compare mpfr [THOUSANDS] | compare bench
+       compare vectors | compare score-vectors";
 
 fn main() -> ExitCode {
     let words: Vec<String> = env::args().skip(1).collect();
     let words: Vec<&str> = words.iter().map(String::as_str).collect();
     match words[..] {
-        ["vectors"] => succeeds(vectors::write().is_ok()),
         ["run"] => succeeds(run::compare(10)),
-        ["run", millions] => match millions.parse() {
-            Ok(millions) => succeeds(run::compare(millions)),
-            Err(_) => usage(),
-        },
+        ["run", millions] => with_number(millions, run::compare),
+        ["mpfr"] => succeeds(compare_mpfr(1000)),
+        ["mpfr", thousands] => with_number(thousands, compare_mpfr),
         ["bench"] => {
             bench::run();
             ExitCode::SUCCESS
         }
+        ["vectors"] => written(vectors::write()),
+        ["score-vectors"] => written(vectors::write_scores()),
         _ => usage(),
+    }
+}
+
+#[cfg(mpfr)]
+use mpfr::compare as compare_mpfr;
+
+#[cfg(not(mpfr))]
+fn compare_mpfr(_: u64) -> bool {
+    println!("MPFR: not installed");
+    true
+}
+
+fn with_number(word: &str, command: fn(u64) -> bool) -> ExitCode {
+    match word.parse() {
+        Ok(number) => succeeds(command(number)),
+        Err(_) => usage(),
     }
 }
 
@@ -39,6 +60,13 @@ fn succeeds(good: bool) -> ExitCode {
     } else {
         ExitCode::FAILURE
     }
+}
+
+fn written(result: io::Result<()>) -> ExitCode {
+    if let Err(error) = &result {
+        eprintln!("compare: {error}");
+    }
+    succeeds(result.is_ok())
 }
 
 fn usage() -> ExitCode {

@@ -1,39 +1,50 @@
-//! Compares the weigher with the machine, case by case.
+//! Compares the weigher with the machine and with the Rust exp2m1, case by case.
 
 use crate::case::Case;
-use crate::cases::{FLOOR, FUSED, Operation, ROUND, SCALE};
+use crate::cases::{FLOOR, FUSED, ROUND, SCALE};
 use crate::random::Random;
 use crate::values::SPECIALS;
+use crate::{rust, score};
+
+/// Patterns on each side of a boundary or table entry of the score.
+const REACH: i64 = 1000;
 
 /// Runs the edges and so many million random cases of each operation; false where the two differ in any case.
 pub fn compare(millions: u64) -> bool {
     let mut random = Random::new(2);
+    let count = millions * 1_000_000;
     let mut mismatches = 0;
     for operation in [FUSED, ROUND, FLOOR, SCALE] {
-        mismatches += compare_operation(&operation, millions * 1_000_000, &mut random);
+        let edges = (operation.edges)(&SPECIALS).into_iter();
+        let others = (0..count).map(|_| (operation.random)(&mut random));
+        mismatches += compare_operation(operation.name, edges.chain(others));
+    }
+    if rust::INSTANCES.is_empty() {
+        println!("score: not compared, the Rust source was not there");
+    } else {
+        let edges = score::edges(REACH).into_iter();
+        let others = (0..count).map(|_| score::weight(&mut random));
+        mismatches += compare_operation("score", edges.chain(others).map(Case::Score));
     }
     mismatches == 0
 }
 
-/// Prints each mismatch and then the counts, and returns how many mismatches there were.
-fn compare_operation(operation: &Operation, count: u64, random: &mut Random) -> u64 {
-    let edges = (operation.edges)(&SPECIALS);
-    let cases = edges.len() as u64 + count;
-    let mut mismatches = 0;
-    for case in edges {
-        mismatches += u64::from(differs(case));
-    }
-    for _ in 0..count {
-        mismatches += u64::from(differs((operation.random)(random)));
-    }
-    println!("{}: {cases} cases, {mismatches} mismatches", operation.name);
-    mismatches
+fn compare_operation(name: &str, cases: impl Iterator<Item = Case>) -> u64 {
+    compare_answers(name, cases.map(|case| (case, case.reference())))
 }
 
-fn differs(case: Case) -> bool {
-    let (got, want) = (case.weigher(), case.machine());
-    if got != want {
-        println!("{case}: weigher {got:016x}, machine {want:016x}");
+/// Compares the weigher with the answers given. Prints each mismatch and then the counts, and returns how many mismatches there were.
+pub fn compare_answers(name: &str, cases: impl Iterator<Item = (Case, u64)>) -> u64 {
+    let mut count = 0;
+    let mut mismatches = 0;
+    for (case, want) in cases {
+        let got = case.weigher();
+        if got != want {
+            println!("{case}: weigher {got:016x}, reference {want:016x}");
+            mismatches += 1;
+        }
+        count += 1;
     }
-    got != want
+    println!("{name}: {count} cases, {mismatches} mismatches");
+    mismatches
 }

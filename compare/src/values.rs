@@ -102,6 +102,12 @@ pub fn float(random: &mut Random, exponent: i64) -> u64 {
     assemble(random, exponent, fraction)
 }
 
+/// A float from lo to hi, evenly.
+pub fn linear(random: &mut Random, lo: f64, hi: f64) -> u64 {
+    let unit = random.below(1 << 53) as f64 / (1u64 << 53) as f64;
+    (lo + (hi - lo) * unit).to_bits()
+}
+
 /// A special value of either sign, or any pattern.
 pub fn special(random: &mut Random) -> u64 {
     let word = random.word();

@@ -3,7 +3,6 @@
 // A vector is `fused A B C WANT`, `round X WANT`, `floor X WANT` or `scale X N WANT`. Floats are bit patterns, and N is the
 // two's complement of 32 bits.
 use vectors::Answer;
-use vectors::Numbers;
 ghost use mathlib.Core.Path.{_≡_};
 ghost use Prim.Native.Nat.{_<_};
 ghost use mir.Syntax.{w32};
@@ -21,8 +20,10 @@ fn signed(n: u64) -> i32
     }
 }
 
-// What the named operation gives for a line's numbers, of which the last is the one wanted.
-fn answer(name: &[u8], numbers: Numbers) -> Answer {
+// What a line's operation gives for its numbers, of which the last is the one wanted.
+fn answer(line: &[u8]) -> Answer {
+    let name = vectors::name_of(line);
+    let numbers = vectors::numbers_of(line);
     let count = numbers.count;
     let v = numbers.values;
     if count == 4 && check::same(name, b"fused") {
@@ -52,28 +53,13 @@ fn answer(name: &[u8], numbers: Numbers) -> Answer {
     Answer::Malformed
 }
 
-fn line_passes(number: u64, line: &[u8]) -> bool {
-    let end = vectors::field_end(line, 0);
-    let numbers = vectors::read_numbers(line, end);
-    vectors::passes(answer(&line[..end], numbers), number, line)
-}
-
 fn run(text: &[u8]) {
-    let mut lines = 0;
-    let mut failures = 0;
-    let mut at = 0;
-    while at < text.len() {
-        let end = vectors::line_end(text, at);
-        lines += 1;
-        if !line_passes(lines, &text[at..end]) {
-            failures += 1;
-        }
-        if end == text.len() {
-            break;
-        }
-        at = end + 1;
+    let mut progress = vectors::start();
+    while progress.at < text.len() {
+        let answer = answer(vectors::line(text, progress.at));
+        progress = vectors::next(text, progress, answer);
     }
-    vectors::print_count(lines, failures);
+    vectors::print_count(progress);
 }
 
 fn main() {

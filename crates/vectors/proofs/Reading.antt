@@ -9,6 +9,7 @@ use mathlib.Core.List.{List, [], _∷_}
 use lib.Dec.{ltb}
 use lib.ListN.{length, getD, drop, drop-of-length-le}
 use borrow.Author.Tests.{lt-ltb, le-ltb, ne-eqb, eq-eqb}
+use Rattle.vectors.specs.declared.Number.{Number}
 use Rattle.vectors.specs.declared.Number.the-variants.{Value, Malformed}
 use Rattle.vectors.specs.Hexadecimal.{digitOf, readFrom, numberOf}
 

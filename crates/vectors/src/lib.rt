@@ -1,14 +1,16 @@
 // Test vectors as text: a line for each, the operation's name and then hexadecimal numbers, with one space before each.
 //
-// A program over it reads the text, finds each line's answer, and has the failures and the count printed. The contract of hex says
-// which number a text is (specs/Hexadecimal.antt); the others promise that they are safe and end.
+// A program over it reads the text, goes from line to line, finds each line's answer, and has the failures and the count printed. The
+// contract of hex says which number a text is (specs/Hexadecimal.antt), and that of next that the text ends (specs/Text.antt); the others
+// promise that they are safe and end.
 use libc::STDIN_FILENO;
 use libc::STDOUT_FILENO;
 ghost use mathlib.Core.Path.{_≡_};
-ghost use Prim.Native.Nat.{_≤_};
+ghost use Prim.Native.Nat.{_≤_, _<_};
 ghost use lib.ListN.{length};
 ghost use Rattle.io.specs.Counts.{Counts};
 ghost use Rattle.vectors.specs.Hexadecimal.{digitOf, numberOf};
+ghost use Rattle.vectors.specs.Text.{Reached};
 
 pub enum Number {
     Value(u64),
@@ -25,6 +27,13 @@ pub struct Numbers {
 pub enum Answer {
     Found { got: u64, want: u64 },
     Malformed,
+}
+
+// How far a text has been run: where its next line starts, how many lines there were, and how many failed.
+pub struct Progress {
+    pub at: usize,
+    pub lines: u64,
+    pub failures: u64,
 }
 
 // Room for the whole text.
@@ -46,15 +55,23 @@ pub fn read_text(space: &mut [u8]) -> usize
 }
 
 // Where the line that starts at `from` ends.
-pub fn line_end(text: &[u8], from: usize) -> usize
+fn line_end(text: &[u8], from: usize) -> usize
     requires { ⌜ from ≤ length (now text) ⌝ }
     ensures { λ r. ⌜ (from ≤ r) × (r ≤ length (now (text .entry))) ⌝ }
 {
     bytes::scan::find(text, from, text.len(), b'\n')
 }
 
+// The line that starts at `from`.
+pub fn line(text: &[u8], from: usize) -> &[u8]
+    requires { ⌜ from ≤ length (now text) ⌝ }
+{
+    let end = line_end(text, from);
+    &text[from..end]
+}
+
 // Where the field that starts at `from` ends.
-pub fn field_end(line: &[u8], from: usize) -> usize
+fn field_end(line: &[u8], from: usize) -> usize
     requires { ⌜ from ≤ length (now line) ⌝ }
     ensures { λ r. ⌜ (from ≤ r) × (r ≤ length (now (line .entry))) ⌝ }
 {
@@ -108,8 +125,19 @@ fn no_numbers() -> Numbers {
     }
 }
 
+// The name of a line's operation, its first field.
+pub fn name_of(line: &[u8]) -> &[u8] {
+    let end = field_end(line, 0);
+    &line[0..end]
+}
+
+// The numbers of a line, the fields after the first.
+pub fn numbers_of(line: &[u8]) -> Numbers {
+    read_numbers(line, field_end(line, 0))
+}
+
 // The numbers of the fields after `at`, which is the end of a field.
-pub fn read_numbers(line: &[u8], at: usize) -> Numbers
+fn read_numbers(line: &[u8], at: usize) -> Numbers
     requires { ⌜ at ≤ length (now line) ⌝ }
 {
     let mut values = [0u64; 4];
@@ -138,31 +166,67 @@ fn print_line(number: u64, line: &[u8]) {
     io::write_all(STDOUT_FILENO, line);
 }
 
-// Whether the answer is the one wanted; a failure is printed with its line, in which the number wanted comes last.
-pub fn passes(answer: Answer, number: u64, line: &[u8]) -> bool {
+// 1 where the answer is not the one wanted, and 0 where it is. A failure is printed with its line, in which the number wanted comes last.
+fn failures(answer: Answer, number: u64, line: &[u8]) -> u64
+    ensures { λ r. ⌜ r ≤ 1 ⌝ }
+{
     match answer {
         Answer::Found { got, want } => {
             if got == want {
-                return true;
+                return 0;
             }
             print_line(number, line);
             io::write_all(STDOUT_FILENO, b", got ");
             io::print_hex(STDOUT_FILENO, got, 16);
             io::write_all(STDOUT_FILENO, b"\n");
-            false
+            1
         }
         Answer::Malformed => {
             print_line(number, line);
             io::write_all(STDOUT_FILENO, b", not a vector\n");
-            false
+            1
         }
     }
 }
 
+// Nothing has been run.
+pub fn start() -> Progress
+    ensures { λ r. ⌜ (r .at ≡ 0) × (r .lines ≡ 0) × (r .failures ≡ 0) ⌝ }
+{
+    Progress {
+        at: 0,
+        lines: 0,
+        failures: 0,
+    }
+}
+
+// The progress past the next line, whose answer is given; a failure is printed.
+pub fn next(text: &[u8], progress: Progress, answer: Answer) -> Progress
+    requires { ⌜ Reached progress (now text) × (progress .at < length (now text)) ⌝ }
+    ensures { λ r. ⌜ Reached r (now (text .entry)) × (progress .at < r .at) ⌝ }
+{
+    let at = progress.at;
+    let end = line_end(text, at);
+    let lines = progress.lines + 1;
+    let failures = progress.failures + failures(answer, lines, &text[at..end]);
+    if end == text.len() {
+        return Progress {
+            at: end,
+            lines,
+            failures,
+        };
+    }
+    Progress {
+        at: end + 1,
+        lines,
+        failures,
+    }
+}
+
 // Prints how many vectors there were and how many failed.
-pub fn print_count(vectors: u64, failures: u64) {
-    io::print_decimal(STDOUT_FILENO, vectors);
+pub fn print_count(progress: Progress) {
+    io::print_decimal(STDOUT_FILENO, progress.lines);
     io::write_all(STDOUT_FILENO, b" vectors, ");
-    io::print_decimal(STDOUT_FILENO, failures);
+    io::print_decimal(STDOUT_FILENO, progress.failures);
     io::write_all(STDOUT_FILENO, b" failures\n");
 }

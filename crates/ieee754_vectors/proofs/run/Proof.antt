@@ -1,51 +1,37 @@
--- `ieee754_vectors::run` is safe and ends: each turn passes a line's end, so there are no more lines than bytes passed. Assumes nothing.
-use Prim.Native.Nat.{_≤_, _-_}
-use mathlib.Core.Logic.{⊎-elim}
-use native.Mathlib.Omega.{arith}
+-- `ieee754_vectors::run` is safe and ends: each turn passes a line. Assumes nothing.
+use Prim.Native.Nat.{_-_}
 use lib.ListN.{length}
 use borrow.Author.Needs.{needs}
+use Rattle.vectors.specs.Text.{Reached}
 use Rattle.ieee754_vectors.proofs.run.Statement.{statement}
 use Rattle.ieee754_vectors.proofs.run.Tie as tie
 
 abbrev Inv-loop : tie.InvT-loop
-Inv-loop text lines₀ failures₀ at₀ lines failures at =
-    (at ≤ length text) × (lines ≤ at) × (failures ≤ lines)
+Inv-loop text progress₀ progress = Reached progress text
 
 abbrev μ-loop : tie.MeasureT-loop
-μ-loop text lines₀ failures₀ at₀ lines failures at = length text - at
+μ-loop text progress₀ progress = length text - progress .at
+
+start-requires : tie.Need-start-requires Inv-loop μ-loop
+start-requires c κs = search needs
 
 loop-holds : tie.Need-loop-holds Inv-loop μ-loop
 loop-holds c = search needs
 
-line-end-requires : tie.Need-line-end-requires Inv-loop μ-loop
-line-end-requires c κs = search needs
+line-requires : tie.Need-line-requires Inv-loop μ-loop
+line-requires c κs = search needs
 
-add-lines : tie.Need-add-lines Inv-loop μ-loop
-add-lines c = search needs
+answer-requires : tie.Need-answer-requires Inv-loop μ-loop
+answer-requires c κs = search needs
 
-sub-line-passes : tie.Need-sub-line-passes Inv-loop μ-loop
-sub-line-passes c = search needs
-
-part-line-passes-start : tie.Need-part-line-passes-start Inv-loop μ-loop
-part-line-passes-start c = search needs
-
-part-line-passes-end : tie.Need-part-line-passes-end Inv-loop μ-loop
-part-line-passes-end c = search needs
-
-line-passes-requires : tie.Need-line-passes-requires Inv-loop μ-loop
-line-passes-requires c κs = search needs
-
-add-failures : tie.Need-add-failures Inv-loop μ-loop
-add-failures c = search needs
-
-add-at : tie.Need-add-at Inv-loop μ-loop
-add-at c = omega arith
+next-requires : tie.Need-next-requires Inv-loop μ-loop
+next-requires c κs = search needs
 
 loop-less : tie.Need-loop-less Inv-loop μ-loop
-loop-less c = omega arith
+loop-less c = search needs
 
 loop-again : tie.Need-loop-again Inv-loop μ-loop
-loop-again c = ⊎-elim (λ w. omega arith) (λ w. omega arith) (c .before .if1 .came)
+loop-again c = search needs
 
 print-count-requires : tie.Need-print-count-requires Inv-loop μ-loop
 print-count-requires c κs = search needs
@@ -59,15 +45,11 @@ run-spec =
     (tie.spec
     Inv-loop
     μ-loop
+    start-requires
     loop-holds
-    line-end-requires
-    add-lines
-    sub-line-passes
-    part-line-passes-start
-    part-line-passes-end
-    line-passes-requires
-    add-failures
-    add-at
+    line-requires
+    answer-requires
+    next-requires
     loop-less
     loop-again
     print-count-requires

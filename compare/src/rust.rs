@@ -1,0 +1,51 @@
+//! The Rust exp2m1, where compare was built with its source.
+
+use crate::machine;
+
+/// exp2m1 over the machine's fma, the weigher's and musl's. There is none where compare was built without the source.
+pub const INSTANCES: &[(&str, fn(f64) -> f64)] = &[
+    #[cfg(exp2m1)]
+    ("Rust", exp2m1_machine::exp2m1),
+    #[cfg(exp2m1)]
+    ("Rust over weigher_fused", exp2m1_weigher::exp2m1),
+    #[cfg(all(exp2m1, musl_fma))]
+    ("Rust over musl's fma", exp2m1_musl::exp2m1),
+];
+
+#[cfg(exp2m1)]
+const TEXT: &str = include_str!("../../target/compare/source/libm/src/math/exp2m1.rs");
+#[cfg(not(exp2m1))]
+const TEXT: &str = "";
+
+/// The Rust's answer on patterns, where there is an instance.
+pub fn score(x: u64) -> u64 {
+    let (_, exp2m1) = INSTANCES[0];
+    machine::pattern(exp2m1(f64::from_bits(x)))
+}
+
+/// x of each entry of the exception tables: the first number of each line that has three.
+pub fn exceptions() -> Vec<u64> {
+    TEXT.lines()
+        .filter(|line| line.matches("hf64!").count() == 3)
+        .map(|line| first_number(line).expect("an entry of a table"))
+        .collect()
+}
+
+/// The pattern of the first number, as in `(-hf64!("0x1.8p-3"), ..` and `(hf64!("-0x1.8p-3"), ..`.
+fn first_number(line: &str) -> Option<u64> {
+    let entry = line.trim_start().strip_prefix('(')?;
+    let (sign, rest) = entry.split_once("hf64!(\"")?;
+    let (number, _) = rest.split_once('"')?;
+    let size = hexadecimal(number.trim_start_matches('-'))?;
+    let negative = sign == "-" || number.starts_with('-');
+    Some(if negative { -size } else { size }.to_bits())
+}
+
+/// The float that a text like 0x1.8p-3 stands for.
+fn hexadecimal(text: &str) -> Option<f64> {
+    let (digits, exponent) = text.strip_prefix("0x")?.split_once('p')?;
+    let (whole, fraction) = digits.split_once('.').unwrap_or((digits, ""));
+    let significand = u64::from_str_radix(&format!("{whole}{fraction}"), 16).ok()?;
+    let exponent = exponent.parse::<i32>().ok()? - 4 * fraction.len() as i32;
+    Some(ffi::ldexp(significand as f64, exponent))
+}
