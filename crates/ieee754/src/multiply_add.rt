@@ -25,13 +25,7 @@ use wide::Wide;
 
 // ---- finite numbers that are not zero
 
-// One of two words, and one of two signs, by a conditional move.
-fn pick_word(b: bool, x: u64, y: u64) -> u64
-    ensures { λ r. ⌜ r ≡ cond b x y ⌝ }
-{
-    if b { x } else { y }
-}
-
+// One of two signs, by a conditional move.
 fn pick_sign(b: bool, x: bool, y: bool) -> bool
     ensures { λ r. ⌜ r ≡ cond b x y ⌝ }
 {
@@ -76,8 +70,8 @@ fn align(dir: Direction, s: bool, p: Wide, pe: u64, t: bool, q: Wide, qe: u64) -
     let swap = pe < qe;
     let x = wide::pick(swap, q, p);
     let y = wide::pick(swap, p, q);
-    let xe = pick_word(swap, qe, pe);
-    let ye = pick_word(swap, pe, qe);
+    let xe = wide::pick_word(swap, qe, pe);
+    let ye = wide::pick_word(swap, pe, qe);
     let shifted = wide::shift_right_jam(y, xe - ye);
     add_signed(
         dir,

@@ -92,15 +92,14 @@ fn rounds_away(dir: Direction, neg: bool) -> bool
     }
 }
 
-// Two tests and no `match` on the direction, which would become a jump table.
+// Both increments are made and one is picked: a branch on the direction would become a jump table.
 fn rounding_increment(dir: Direction, neg: bool, odd: u64, k: u64) -> u64
     requires { ⌜ (1 ≤ k) × (k ≤ 63) × (odd ≤ 1) ⌝ }
     ensures { λ r. ⌜ r ≡ increment dir neg odd k ⌝ }
 {
-    if to_nearest(dir) {
-        return ones(k - 1) + odd;
-    }
-    if rounds_away(dir, neg) { ones(k) } else { 0 }
+    let nearest = ones(k - 1) + odd;
+    let directed = wide::pick_word(rounds_away(dir, neg), ones(k), 0);
+    wide::pick_word(to_nearest(dir), nearest, directed)
 }
 
 // m / 2^k as a whole number.

@@ -105,6 +105,13 @@ pub fn pick(b: bool, x: Wide, y: Wide) -> Wide
     if b { x } else { y }
 }
 
+// The same for words.
+pub fn pick_word(b: bool, x: u64, y: u64) -> u64
+    ensures { λ r. ⌜ r ≡ cond b x y ⌝ }
+{
+    if b { x } else { y }
+}
+
 // q, made odd where something is lost below it.
 pub fn set_sticky(q: u64, rest: u64) -> u64
     ensures { λ r. ⌜ r ≡ sticky q rest ⌝ }

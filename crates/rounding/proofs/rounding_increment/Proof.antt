@@ -1,27 +1,23 @@
 -- `rounding::rounding_increment` meets its contract. Assumes nothing.
-use mathlib.Core.Path.{_≡_, sym, ap, _∙_, subst}
-use Prim.Native.Nat.{ℕ, _+_, _-_, _^_, _<_}
-use mathlib.Core.Bool.{Bool, false, cond}
-use lib.Pow.{pow-mono}
+use mathlib.Core.Path.{_≡_, ap, ap₂, _∙_}
+use Prim.Native.Nat.{ℕ, _+_, _-_, _^_, _≤_, _<_}
 use native.Mathlib.Nat.{lt-of-lt-of-le}
+use mathlib.Core.Bool.{Bool, cond}
+use lib.Pow.{pow-pos, pow-mono}
 use borrow.Author.Needs.{needs}
 use native.Mathlib.Omega.{arith}
-use Rattle.rounding.specs.Machine.{toNearest, roundsAway, increment}
-use Rattle.rounding.proofs.Increment.{increment-lt}
+use Rattle.rounding.specs.Machine.{toNearest}
 use Rattle.rounding.proofs.rounding_increment.Statement.{statement}
 use Rattle.rounding.proofs.rounding_increment.Tie as tie
 
-nearest : (c : tie.After-ones) → let a = c .before .before .before .args in c .ones .result + a .odd ≡ increment (a .dir) (a .neg) (a .odd) (a .k)
-nearest c =
-    let t = c .before .before in
-    let a = t .before .args in
-    ap (λ (x : ℕ). x + a .odd) (c .ones .ensures) ∙ sym (ap (λ (b : Bool). cond b (2 ^ (a .k - 1) - 1 + a .odd) (cond (roundsAway (a .dir) (a .neg)) (2 ^ a .k - 1) 0)) (sym (t .to-nearest .ensures) ∙ c .before .if1 .taken))
+below : (k : ℕ) → 2 ^ (k - 1) - 1 < 2 ^ (k - 1)
+below k = go (2 ^ (k - 1)) (pow-pos (k - 1))
+  where
+    go : (u : ℕ) → 0 < u → u - 1 < u
+    go u h = omega arith
 
-directed : (odd k : ℕ) (n w : Bool) → n ≡ false → cond n (2 ^ (k - 1) - 1 + odd) (cond w (2 ^ k - 1) 0) ≡ cond w (2 ^ k - 1) 0
-directed odd k n w e = ap (λ (b : Bool). cond b (2 ^ (k - 1) - 1 + odd) (cond w (2 ^ k - 1) 0)) e
-
-to-nearest-requires : tie.Need-to-nearest-requires
-to-nearest-requires c κs = search needs
+under : (r odd u : ℕ) → r ≡ u - 1 → u - 1 < 2 ^ 63 → odd ≤ 1 → r + odd < 2 ^ 64
+under r odd u e h l = omega arith
 
 sub-ones : tie.Need-sub-ones
 sub-ones c = search needs
@@ -29,13 +25,10 @@ sub-ones c = search needs
 ones-requires : tie.Need-ones-requires
 ones-requires c κs = search needs
 
-add-result : tie.Need-add-result
-add-result c =
-    let a = c .before .before .before .args in
-    record { fits = subst (λ (x : ℕ). x < 2 ^ 64) (sym (nearest c)) (lt-of-lt-of-le (increment-lt (a .dir) (a .neg) (a .odd) (a .k) (omega arith) (omega arith)) (pow-mono {i = a .k} {j = 64} (omega arith))) }
-
-returns : tie.Need-returns
-returns c = nearest c
+add-nearest : tie.Need-add-nearest
+add-nearest c =
+    let a = c .before .args in
+    record { fits = under (c .ones .result) (a .odd) (2 ^ (a .k - 1)) (c .ones .ensures) (lt-of-lt-of-le (below (a .k)) (pow-mono {i = a .k - 1} {j = 63} (omega arith))) (omega arith) }
 
 rounds-away-requires : tie.Need-rounds-away-requires
 rounds-away-requires c κs = search needs
@@ -43,19 +36,26 @@ rounds-away-requires c κs = search needs
 ones-requires-2 : tie.Need-ones-requires-2
 ones-requires-2 c κs = search needs
 
-returns-2 : tie.Need-returns-2
-returns-2 c =
-    let r = c .before .before in
-    let t = r .before .before in
-    let a = t .before .args in
-    c .ones2 .ensures ∙ sym (directed (a .odd) (a .k) (toNearest (a .dir)) (roundsAway (a .dir) (a .neg)) (sym (t .to-nearest .ensures) ∙ r .before .if1 .left) ∙ ap (λ (b : Bool). cond b (2 ^ a .k - 1) 0) (sym (r .rounds-away .ensures) ∙ c .before .if2 .taken))
+pick-word-requires : tie.Need-pick-word-requires
+pick-word-requires c κs = search needs
 
-returns-3 : tie.Need-returns-3
-returns-3 c =
-    let r = c .before in
-    let t = r .before .before in
-    let a = t .before .args in
-    sym (directed (a .odd) (a .k) (toNearest (a .dir)) (roundsAway (a .dir) (a .neg)) (sym (t .to-nearest .ensures) ∙ r .before .if1 .left) ∙ ap (λ (b : Bool). cond b (2 ^ a .k - 1) 0) (sym (r .rounds-away .ensures) ∙ c .if2 .left))
+to-nearest-requires : tie.Need-to-nearest-requires
+to-nearest-requires c κs = search needs
+
+pick-word-requires-2 : tie.Need-pick-word-requires-2
+pick-word-requires-2 c κs = search needs
+
+returns : tie.Need-returns
+returns c =
+    let t = c .before in
+    let p = t .before in
+    let o = p .before in
+    let w = o .before in
+    let n = w .before in
+    let a = n .before .args in
+    c .pick-word2 .ensures
+    ∙ ap₂ (λ (b : Bool) (x : ℕ). cond b x (p .pick-word .result)) (t .to-nearest .ensures) (ap (λ (x : ℕ). x + a .odd) (n .ones .ensures))
+    ∙ ap (λ (x : ℕ). cond (toNearest (a .dir)) (2 ^ (a .k - 1) - 1 + a .odd) x) (p .pick-word .ensures ∙ ap₂ (λ (b : Bool) (x : ℕ). cond b x 0) (w .rounds-away .ensures) (o .ones2 .ensures))
 
 pub rounding-increment-spec : {M : Type 1} → statement M
-rounding-increment-spec = tie.close (tie.spec to-nearest-requires sub-ones ones-requires add-result returns rounds-away-requires ones-requires-2 returns-2 returns-3)
+rounding-increment-spec = tie.close (tie.spec sub-ones ones-requires add-nearest rounds-away-requires ones-requires-2 pick-word-requires to-nearest-requires pick-word-requires-2 returns)
