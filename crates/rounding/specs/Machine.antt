@@ -14,20 +14,6 @@ use Rattle.rounding.specs.Rounding.{roundTo}
 abbrev pub signBit : Bool → ℕ
 signBit s = cond s 0x8000000000000000 0
 
--- the patterns, without a sign, of what an overflow becomes
-abbrev pub overflowBits : Direction → Bool → ℕ
-overflowBits Nearest s = 0x7ff0000000000000
-overflowBits TowardZero s = 0x7fefffffffffffff
-overflowBits Up s = cond s 0x7fefffffffffffff 0x7ff0000000000000
-overflowBits Down s = cond s 0x7ff0000000000000 0x7fefffffffffffff
-
--- the size b of a result, which is an infinity's or more where it overflows; and the pattern of such a size and a sign
-abbrev pub boundedBits : Direction → Bool → ℕ → ℕ
-boundedBits d s b = cond (ltb b 0x7ff0000000000000) b (overflowBits d s)
-
-abbrev pub packed : Direction → Bool → ℕ → ℕ
-packed d s b = signBit s + boundedBits d s b
-
 abbrev pub toNearest : Direction → Bool
 toNearest Nearest = true
 toNearest TowardZero = false
@@ -40,6 +26,17 @@ roundsAway Nearest s = false
 roundsAway TowardZero s = false
 roundsAway Up s = not s
 roundsAway Down s = s
+
+-- the patterns, without a sign, of what an overflow becomes
+abbrev pub overflowBits : Direction → Bool → ℕ
+overflowBits d s = cond (toNearest d) 0x7ff0000000000000 (cond (roundsAway d s) 0x7ff0000000000000 0x7fefffffffffffff)
+
+-- the size b of a result, which is an infinity's or more where it overflows; and the pattern of such a size and a sign
+abbrev pub boundedBits : Direction → Bool → ℕ → ℕ
+boundedBits d s b = cond (ltb b 0x7ff0000000000000) b (overflowBits d s)
+
+abbrev pub packed : Direction → Bool → ℕ → ℕ
+packed d s b = signBit s + boundedBits d s b
 
 -- what is added before the low k digits are cut off, so that a direction's whole number is left; odd is the last digit that stays
 abbrev pub increment : Direction → Bool → ℕ → ℕ → ℕ

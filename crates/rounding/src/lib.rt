@@ -32,15 +32,35 @@ pub fn sign_bit(neg: bool) -> u64
     if neg { SIGN } else { 0 }
 }
 
+// What a direction asks for is made for all of them and one is picked: branches on the direction would become jump tables.
+fn to_nearest(dir: Direction) -> bool
+    ensures { λ r. ⌜ r ≡ toNearest dir ⌝ }
+{
+    match dir {
+        Direction::Nearest => true,
+        Direction::TowardZero => false,
+        Direction::Up => false,
+        Direction::Down => false,
+    }
+}
+
+// Whether a directed rounding moves a size away from zero.
+fn rounds_away(dir: Direction, neg: bool) -> bool
+    ensures { λ r. ⌜ r ≡ roundsAway dir neg ⌝ }
+{
+    match dir {
+        Direction::Nearest => false,
+        Direction::TowardZero => false,
+        Direction::Up => !neg,
+        Direction::Down => neg,
+    }
+}
+
 fn overflow_bits(dir: Direction, neg: bool) -> u64
     ensures { λ r. ⌜ r ≡ overflowBits dir neg ⌝ }
 {
-    match dir {
-        Direction::Nearest => INFINITY,
-        Direction::TowardZero => LARGEST,
-        Direction::Up => if neg { LARGEST } else { INFINITY },
-        Direction::Down => if neg { INFINITY } else { LARGEST },
-    }
+    let directed = wide::pick_word(rounds_away(dir, neg), INFINITY, LARGEST);
+    wide::pick_word(to_nearest(dir), INFINITY, directed)
 }
 
 // The size of a result, which is an infinity's or more where it overflows.
@@ -69,30 +89,6 @@ fn ones(k: u64) -> u64
     (1 << k) - 1
 }
 
-fn to_nearest(dir: Direction) -> bool
-    ensures { λ r. ⌜ r ≡ toNearest dir ⌝ }
-{
-    match dir {
-        Direction::Nearest => true,
-        Direction::TowardZero => false,
-        Direction::Up => false,
-        Direction::Down => false,
-    }
-}
-
-// Whether a directed rounding moves a size away from zero.
-fn rounds_away(dir: Direction, neg: bool) -> bool
-    ensures { λ r. ⌜ r ≡ roundsAway dir neg ⌝ }
-{
-    match dir {
-        Direction::Nearest => false,
-        Direction::TowardZero => false,
-        Direction::Up => !neg,
-        Direction::Down => neg,
-    }
-}
-
-// Both increments are made and one is picked: a branch on the direction would become a jump table.
 fn rounding_increment(dir: Direction, neg: bool, odd: u64, k: u64) -> u64
     requires { ⌜ (1 ≤ k) × (k ≤ 63) × (odd ≤ 1) ⌝ }
     ensures { λ r. ⌜ r ≡ increment dir neg odd k ⌝ }
