@@ -10,6 +10,8 @@ mod random;
 mod run;
 mod rust;
 mod score;
+mod service;
+mod streams;
 mod values;
 mod vectors;
 
@@ -17,7 +19,7 @@ use std::env;
 use std::io;
 use std::process::ExitCode;
 
-const USAGE: &str = "usage: compare run [MILLIONS] | compare mpfr [THOUSANDS] | compare bench
+const USAGE: &str = "usage: compare run [MILLIONS] | compare mpfr [THOUSANDS] | compare streams [THOUSANDS] | compare bench
        compare vectors | compare score-vectors";
 
 fn main() -> ExitCode {
@@ -28,6 +30,8 @@ fn main() -> ExitCode {
         ["run", millions] => with_number(millions, run::compare),
         ["mpfr"] => succeeds(compare_mpfr(1000)),
         ["mpfr", thousands] => with_number(thousands, compare_mpfr),
+        ["streams"] => succeeds(streams::compare(100)),
+        ["streams", thousands] => with_number(thousands, streams::compare),
         ["bench"] => {
             bench::run();
             ExitCode::SUCCESS

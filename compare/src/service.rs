@@ -1,0 +1,74 @@
+//! The framed service, written from document 01 alone, over the machine's fma and the Rust exp2m1.
+
+use crate::{machine, rust};
+
+/// The longest body that is answered.
+pub const LONGEST_BODY: usize = 514;
+
+/// The bytes of one float in a frame.
+pub const FLOAT: usize = 8;
+
+/// The answers to a whole stream and its end.
+pub fn answers(stream: &[u8]) -> Vec<u8> {
+    let mut output = Vec::new();
+    let mut rest = stream;
+    while let Some((body, next)) = first_frame(rest) {
+        match results(body) {
+            Ok(results) => write_answer(&results, &mut output),
+            Err(number) => write_refusal(number, &mut output),
+        }
+        rest = next;
+    }
+    if !rest.is_empty() {
+        write_refusal(8, &mut output);
+    }
+    output
+}
+
+/// The body of the first frame and what is behind it, where the frame is whole.
+fn first_frame(stream: &[u8]) -> Option<(&[u8], &[u8])> {
+    let (length, rest) = stream.split_first_chunk()?;
+    rest.split_at_checked(usize::from(u16::from_be_bytes(*length)))
+}
+
+/// The results of a body's items, or the number of the refusal.
+fn results(body: &[u8]) -> Result<Vec<u64>, u8> {
+    let [version, kind, payload @ ..] = body else {
+        return Err(1);
+    };
+    if body.len() > LONGEST_BODY {
+        return Err(2);
+    }
+    if *version != 1 {
+        return Err(3);
+    }
+    let (floats, result): (usize, fn(&[u64]) -> u64) = match kind {
+        1 => (1, |x| rust::score(x[0])),
+        2 => (3, |x| machine::fused(x[0], x[1], x[2])),
+        _ => return Err(4),
+    };
+    let size = floats * FLOAT;
+    if payload.is_empty() || !payload.len().is_multiple_of(size) {
+        return Err(5);
+    }
+    Ok(payload
+        .chunks(size)
+        .map(|item| result(&patterns(item)))
+        .collect())
+}
+
+fn patterns(bytes: &[u8]) -> Vec<u64> {
+    let (floats, _) = bytes.as_chunks();
+    floats.iter().copied().map(u64::from_be_bytes).collect()
+}
+
+fn write_answer(results: &[u64], output: &mut Vec<u8>) {
+    let length = 2 + results.len() * FLOAT;
+    output.extend((length as u16).to_be_bytes());
+    output.extend([1, 0]);
+    output.extend(results.iter().flat_map(|result| result.to_be_bytes()));
+}
+
+fn write_refusal(number: u8, output: &mut Vec<u8>) {
+    output.extend([0, 2, 1, number]);
+}

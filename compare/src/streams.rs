@@ -1,0 +1,178 @@
+//! Random streams through the program weigher, beside the service of service.rs.
+
+use std::io::{self, Read, Write};
+use std::process::{ChildStdin, Command, Stdio};
+use std::thread;
+
+use crate::case::Case;
+use crate::cases::FUSED;
+use crate::random::Random;
+use crate::service::{self, FLOAT, LONGEST_BODY};
+use crate::{rust, score};
+
+const PROGRAM: &str = "target/bin/weigher";
+
+/// Frames of one stream.
+const FRAMES: u64 = 500;
+
+/// How a stream is handed to the program: the longest piece of one write, of random length where `random` is set.
+struct Feeding {
+    name: &'static str,
+    longest: usize,
+    random: bool,
+}
+
+const FEEDINGS: [Feeding; 3] = [
+    Feeding {
+        name: "whole",
+        longest: usize::MAX,
+        random: false,
+    },
+    Feeding {
+        name: "byte by byte",
+        longest: 1,
+        random: false,
+    },
+    Feeding {
+        name: "in random pieces",
+        longest: 700,
+        random: true,
+    },
+];
+
+/// Runs so many thousand random frames in each way of feeding; false where an answer differs.
+pub fn compare(thousands: u64) -> bool {
+    if rust::INSTANCES.is_empty() {
+        println!("streams: not compared, the Rust source was not there");
+        return true;
+    }
+    let mut random = Random::new(5);
+    let mut mismatches = 0;
+    for feeding in FEEDINGS {
+        let streams = thousands * 1000 / FRAMES;
+        let mut different = 0;
+        for number in 0..streams {
+            let stream = stream(&mut random);
+            match answers(&stream, &feeding, &mut random) {
+                Ok(got) if got == service::answers(&stream) => {}
+                Ok(_) => {
+                    println!("{}: stream {number} is answered differently", feeding.name);
+                    different += 1;
+                }
+                Err(error) => {
+                    println!("{PROGRAM}: {error}");
+                    return false;
+                }
+            }
+        }
+        println!(
+            "{}: {} frames, {different} streams of {streams} differ",
+            feeding.name,
+            streams * FRAMES
+        );
+        mismatches += different;
+    }
+    mismatches == 0
+}
+
+/// What the program answers.
+fn answers(stream: &[u8], feeding: &Feeding, random: &mut Random) -> io::Result<Vec<u8>> {
+    let mut child = Command::new(PROGRAM)
+        .stdin(Stdio::piped())
+        .stdout(Stdio::piped())
+        .spawn()?;
+    let input = child.stdin.take().expect("a pipe");
+    let mut output = child.stdout.take().expect("a pipe");
+    let mut got = Vec::new();
+    thread::scope(|scope| {
+        let feeder = scope.spawn(|| feed(input, stream, feeding, random));
+        output.read_to_end(&mut got)?;
+        feeder.join().expect("the feeding thread")
+    })?;
+    child.wait()?;
+    Ok(got)
+}
+
+fn feed(
+    mut input: ChildStdin,
+    stream: &[u8],
+    feeding: &Feeding,
+    random: &mut Random,
+) -> io::Result<()> {
+    let mut rest = stream;
+    while !rest.is_empty() {
+        let longest = feeding.longest.min(rest.len());
+        let length = if feeding.random {
+            1 + random.below(longest as u64) as usize
+        } else {
+            longest
+        };
+        let (piece, next) = rest.split_at(length);
+        input.write_all(piece)?;
+        rest = next;
+    }
+    Ok(())
+}
+
+/// Frames of every kind and refusal, and sometimes an unfinished one at the end.
+fn stream(random: &mut Random) -> Vec<u8> {
+    let mut bytes: Vec<u8> = (0..FRAMES).flat_map(|_| frame(random)).collect();
+    if random.below(2) == 0 {
+        let last = frame(random);
+        let length = random.below(last.len() as u64) as usize;
+        bytes.extend(&last[..length]);
+    }
+    bytes
+}
+
+fn frame(random: &mut Random) -> Vec<u8> {
+    match random.below(10) {
+        0..4 => body(1, 1, &scores(random)),
+        4..7 => body(1, 2, &triples(random)),
+        7 => body(random.word() as u8, random.below(4) as u8, &scores(random)),
+        8 => {
+            let length = random.pick(&[0, 1, 2, 3, 9, 10, 18, 25, 26, 27, 512]);
+            with_length(length, random)
+        }
+        _ => {
+            let length = LONGEST_BODY as i64 + random.between(-1, 2);
+            let length = random.pick(&[length, length, length, length, 1000, 65_535]);
+            with_length(length as usize, random)
+        }
+    }
+}
+
+fn scores(random: &mut Random) -> Vec<u64> {
+    (0..random.between(1, 64))
+        .map(|_| score::weight(random))
+        .collect()
+}
+
+fn triples(random: &mut Random) -> Vec<u64> {
+    let mut floats = Vec::new();
+    for _ in 0..random.between(1, 21) {
+        if let Case::Fused(a, b, c) = (FUSED.random)(random) {
+            floats.extend([a, b, c]);
+        }
+    }
+    floats
+}
+
+fn body(version: u8, kind: u8, floats: &[u64]) -> Vec<u8> {
+    let length = 2 + floats.len() * FLOAT;
+    let mut frame = (length as u16).to_be_bytes().to_vec();
+    frame.extend([version, kind]);
+    frame.extend(floats.iter().flat_map(|x| x.to_be_bytes()));
+    frame
+}
+
+/// A frame of any bytes that has this length, and often the version and a kind.
+fn with_length(length: usize, random: &mut Random) -> Vec<u8> {
+    let mut frame = (length as u16).to_be_bytes().to_vec();
+    frame.extend((0..length).map(|_| random.word() as u8));
+    if length >= 2 && random.below(4) > 0 {
+        frame[2] = 1;
+        frame[3] = random.between(1, 2) as u8;
+    }
+    frame
+}

@@ -1,0 +1,106 @@
+-- `delivery::take_frames` meets its contract: each turn is one take of the book. Assumes nothing.
+use Prim.Native.Nat.{_-_}
+use native.Mathlib.Omega.{arith}
+use lib.ListN.{length}
+use Rattle.service.specs.Service.{bookOf}
+use Rattle.delivery.specs.Delivery.{deliveryOf}
+use Rattle.delivery.proofs.Takes.{Going, going, going-empty, going-full, going-on, out-length, step-used, step-len}
+use Rattle.delivery.proofs.take_frames.Statement.{statement}
+use Rattle.delivery.proofs.take_frames.Tie as tie
+
+abbrev Inv-loop : tie.InvT-loop
+Inv-loop piece answers₀ state₀ used₀ len₀ answers state used len = Going (deliveryOf (bookOf state₀) piece (length answers₀)) piece answers₀ answers state used len
+
+abbrev μ-loop : tie.MeasureT-loop
+μ-loop piece answers₀ state₀ used₀ len₀ answers state used len = length piece - used
+
+loop-holds : tie.Need-loop-holds Inv-loop μ-loop
+loop-holds c =
+    let s = c .before .before in
+    going (bookOf (s .args .state)) (s .args .piece .now) (s .args .answers .now) (s .args .state) (s .pre .0) (s .pre .1)
+
+sub-if1 : tie.Need-sub-if1 Inv-loop μ-loop
+sub-if1 c = omega (arith, out-length (c .before .loop .inv))
+
+same-length : tie.Need-same-length Inv-loop μ-loop
+same-length c = out-length (c .before .before .loop .inv)
+
+returns : tie.Need-returns Inv-loop μ-loop
+returns c = going-full (c .before .before .loop .inv) (c .if1 .taken)
+
+sub-take : tie.Need-sub-take Inv-loop μ-loop
+sub-take c = omega arith
+
+part-take-start : tie.Need-part-take-start Inv-loop μ-loop
+part-take-start c = omega arith
+
+part-take-end : tie.Need-part-take-end Inv-loop μ-loop
+part-take-end c = omega arith
+
+sub-take-2 : tie.Need-sub-take-2 Inv-loop μ-loop
+sub-take-2 c = omega (arith, out-length (c .before .before .before .loop .inv))
+
+part-take-start-2 : tie.Need-part-take-start-2 Inv-loop μ-loop
+part-take-start-2 c = omega (arith, out-length (c .before .before .before .loop .inv))
+
+part-take-end-2 : tie.Need-part-take-end-2 Inv-loop μ-loop
+part-take-end-2 c = omega arith
+
+take-requires : tie.Need-take-requires Inv-loop μ-loop
+take-requires c κs = tt
+
+add-used : tie.Need-add-used Inv-loop μ-loop
+add-used c =
+    let l = c .before .before .before .before .before .before .before .before .before .loop in
+    let t = c .before .before .before .before .take in
+    let s = c .before .before .before .before .before .before .before .before .before .before .before .before in
+    omega (arith, s .good .1 .0 .0, step-used (l .inv) (c .before .before .before .before .before .before .before .before .loop-test .taken) (c .before .before .before .before .before .before .before .if1 .left) (t .result) _ (t .ensures .0) (t .ensures .1) .0)
+
+add-len : tie.Need-add-len Inv-loop μ-loop
+add-len c =
+    let l = c .before .before .before .before .before .before .before .before .before .before .loop in
+    let t = c .before .before .before .before .before .take in
+    let s = c .before .before .before .before .before .before .before .before .before .before .before .before .before in
+    omega (arith, s .good .1 .1 .0 .0, step-len (l .inv) (c .before .before .before .before .before .before .before .before .before .loop-test .taken) (c .before .before .before .before .before .before .before .before .if1 .left) (t .result) _ (t .ensures .0) (t .ensures .1))
+
+loop-less : tie.Need-loop-less Inv-loop μ-loop
+loop-less c =
+    let l = c .before .before .before .before .before .before .before .before .before .before .loop in
+    let t = c .before .before .before .before .before .take in
+    omega (arith, step-used (l .inv) (c .before .before .before .before .before .before .before .before .before .loop-test .taken) (c .before .before .before .before .before .before .before .before .if1 .left) (t .result) _ (t .ensures .0) (t .ensures .1) .1)
+
+loop-again : tie.Need-loop-again Inv-loop μ-loop
+loop-again c =
+    let l = c .before .before .before .before .before .before .before .before .before .before .loop in
+    let t = c .before .before .before .before .before .take in
+    going-on (l .inv) (c .before .before .before .before .before .before .before .before .before .loop-test .taken) (c .before .before .before .before .before .before .before .before .if1 .left) (t .result) _ (t .ensures .0) (t .ensures .1)
+
+same-length-2 : tie.Need-same-length-2 Inv-loop μ-loop
+same-length-2 c = out-length (c .before .loop .inv)
+
+returns-2 : tie.Need-returns-2 Inv-loop μ-loop
+returns-2 c = going-empty (c .before .loop .inv) (c .loop-test .left)
+
+pub take-frames-spec : {M : Type 1} → statement M
+take-frames-spec =
+    tie.close
+    (tie.spec
+    Inv-loop
+    μ-loop
+    loop-holds
+    sub-if1
+    same-length
+    returns
+    sub-take
+    part-take-start
+    part-take-end
+    sub-take-2
+    part-take-start-2
+    part-take-end-2
+    take-requires
+    add-used
+    add-len
+    loop-less
+    loop-again
+    same-length-2
+    returns-2)

@@ -1,0 +1,4 @@
+pub mod Items
+pub mod Results
+pub mod Refusals
+pub mod Answers

@@ -1,0 +1,70 @@
+-- `frames::refusal_to` meets its contract: each return has what the tests before it left. Assumes nothing.
+use mathlib.Core.Path.{sym, _∙_}
+use native.Mathlib.Omega.{arith}
+use Rattle.frames.proofs.Refusals.{too-short, too-long, body-length, bad-version, bad-kind, bad-payload, no-refusal}
+use borrow.Author.Needs.{needs}
+use Rattle.frames.proofs.refusal_to.Statement.{statement}
+use Rattle.frames.proofs.refusal_to.Tie as tie
+
+returns : tie.Need-returns
+returns c = sym (too-short _ _ (c .if1 .taken))
+
+returns-2 : tie.Need-returns-2
+returns-2 c = sym (too-long _ _ (c .before .if1 .left) (c .if2 .taken))
+
+shared-slice-read-if3 : tie.Need-shared-slice-read-if3
+shared-slice-read-if3 c =
+    let s = c .before .before .before .before in
+    let e = body-length (s .args .n) (s .args .body .now) (omega arith) (omega arith) (s .pre) in
+    omega arith
+
+returns-3 : tie.Need-returns-3
+returns-3 c =
+    let s = c .before .before .before .before .before in
+    sym (bad-version (s .args .n) (s .args .body .now) (omega arith) (omega arith) (c .if3 .taken))
+
+shared-slice-read-kind : tie.Need-shared-slice-read-kind
+shared-slice-read-kind c =
+    let s = c .before .before .before .before .before .before in
+    let e = body-length (s .args .n) (s .args .body .now) (omega arith) (omega arith) (s .pre) in
+    omega arith
+
+is-kind-requires : tie.Need-is-kind-requires
+is-kind-requires c κs = search needs
+
+bad-payload-requires : tie.Need-bad-payload-requires
+bad-payload-requires c κs = search needs
+
+returns-4 : tie.Need-returns-4
+returns-4 c =
+    let s = c .before .before .before .before .before .before .before .before .before .before in
+    sym
+    (bad-payload (s .args .n) (s .args .body .now) (omega arith) (omega arith) (omega arith) (sym (c .before .before .before .is-kind .ensures) ∙ c .before .before .if4 .taken)
+    (sym (c .before .bad-payload .ensures) ∙ c .if5 .taken))
+
+returns-5 : tie.Need-returns-5
+returns-5 c =
+    let s = c .before .before .before .before .before .before .before .before .before .before in
+    sym
+    (no-refusal (s .args .n) (s .args .body .now) (omega arith) (omega arith) (omega arith) (sym (c .before .before .before .is-kind .ensures) ∙ c .before .before .if4 .taken)
+    (sym (c .before .bad-payload .ensures) ∙ c .if5 .left))
+
+returns-6 : tie.Need-returns-6
+returns-6 c =
+    let s = c .before .before .before .before .before .before .before .before in
+    sym (bad-kind (s .args .n) (s .args .body .now) (omega arith) (omega arith) (omega arith) (sym (c .before .is-kind .ensures) ∙ c .if4 .left))
+
+pub refusal-to-spec : {M : Type 1} → statement M
+refusal-to-spec =
+    tie.close
+    (tie.spec
+    returns
+    returns-2
+    shared-slice-read-if3
+    returns-3
+    shared-slice-read-kind
+    is-kind-requires
+    bad-payload-requires
+    returns-4
+    returns-5
+    returns-6)

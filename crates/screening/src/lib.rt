@@ -1,0 +1,54 @@
+// Screening a kind 1 payload for weights that are no number, before it is sent.
+//
+// screening promises what Screens of specs/Screening.antt says of its reply, for every payload. Among several NaNs the place is free.
+ghost use mathlib.Core.Path.{_≡_};
+ghost use Prim.Native.Nat.{_+_, _≤_};
+ghost use lib.ListN.{length};
+ghost use Rattle.screening.specs.Screening.{Screens, isNan};
+ghost use Rattle.words.specs.Bytes.{numberAt};
+
+pub enum Screened {
+    // The refusal's number.
+    Refused(u8),
+    // No weight is a NaN.
+    Clean,
+    // The place of a weight that is a NaN, counted in weights from 0.
+    Missing(usize),
+}
+
+const WEIGHT_BYTES: usize = 8;
+
+const BAD_PAYLOAD: u8 = 5;
+
+const SIGN: u64 = 0x8000000000000000;
+
+const INFINITY: u64 = 0x7ff0000000000000;
+
+fn is_nan_at(payload: &[u8], at: usize) -> bool
+    requires { ⌜ at + 8 ≤ length (now payload) ⌝ }
+    ensures { λ r. ⌜ r ≡ isNan (numberAt 8 (now (payload .entry)) at) ⌝ }
+{
+    INFINITY < words::read_u64(payload, at) % SIGN
+}
+
+pub fn screening(payload: &[u8]) -> Screened
+    ensures { λ r. ⌜ Screens (now (payload .entry)) r ⌝ }
+{
+    let n = payload.len();
+    if n == 0 {
+        return Screened::Refused(BAD_PAYLOAD);
+    }
+    if n % WEIGHT_BYTES != 0 {
+        return Screened::Refused(BAD_PAYLOAD);
+    }
+    let mut place = 0;
+    let mut at = 0;
+    while at < n {
+        if is_nan_at(payload, at) {
+            return Screened::Missing(place);
+        }
+        place += 1;
+        at += WEIGHT_BYTES;
+    }
+    Screened::Clean
+}

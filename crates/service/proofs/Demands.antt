@@ -1,0 +1,167 @@
+-- Demands 1 and 3 hold. Assumes nothing.
+use Prim.Native.Nat.{ℕ, _≤_}
+use mathlib.Core.Path.{_≡_, refl, sym, ap, subst, subst₂, _∙_}
+use mathlib.Core.Logic.{_≢_}
+use mathlib.Core.List.{List, [], _∷_, _++_, map, append-assoc}
+use mathlib.Core.Bool.{Bool, true, false}
+use native.Mathlib.Omega.{arith}
+use lib.ListN.{length, take, drop, length-drop, take-append-drop}
+use Rattle.frames.specs.Frame.{whole}
+use Rattle.partial_frame.specs.State.{isLeft, Left}
+use Rattle.partial_frame.proofs.Reach.{left-test}
+use Rattle.service.specs.Memory.{Memory, viewOf}
+use Rattle.service.specs.Book.{Book, emptyBook, Call, Take, Close, Entry, Moved, move, settled, bookTake, closedWith, bookCall, bookReplies, isSmall}
+use Rattle.service.specs.Service.{isGood, bookOf, untouched, takeOf, closeOf, serviceRun, stateAfter}
+use Rattle.service.specs.Stream.{Item, byte, joined, joinedFrom, movedBy, pointsOf, answersFrom, written}
+use Rattle.service.specs.Demands.{Demand1, Demand3, Typed, Never7, AllLarge, handedOn, bookAfter, FreshAfter, SameAnswers, run}
+use Rattle.service.specs.declared.State.{State}
+use Rattle.service.proofs.Memory.{answer-number}
+use Rattle.service.proofs.Simulation.{fresh-whole, run-book, whole-none, take-book, close-book}
+use Rattle.service.proofs.Streams.{written-points, fresh-after, same-answers, state-after}
+use Rattle.service.proofs.Partition.{part-right, part-unique}
+
+-- ---- the numbers
+
+small-not : {m n : ℕ} → m ≤ 5 → 6 ≤ n → m ≢ n
+small-not h k e = omega arith
+
+settled-number : (m : Moved) (c : Memory) → settled m c .number ≤ 5
+settled-number m c = go (whole (m .held)) refl
+  where
+    go : (t : Bool) → whole (m .held) ≡ t → settled m c .number ≤ 5
+    go true e = rw e (answer-number (viewOf c) (m .held))
+    go false e = rw e (omega arith)
+
+close-number : (h : List ℕ) (c : Memory) → closedWith h c .number ≢ 7
+close-number [] c e = omega arith
+close-number (b ∷ h) c e = omega arith
+
+book-never-7 : (b : Book) (c : Call) → bookCall b c .number ≢ 7
+book-never-7 b (Take p buffer) = go (isSmall buffer) refl
+  where
+    go : (t : Bool) → isSmall buffer ≡ t → bookCall b (Take p buffer) .number ≢ 7
+    go true e = rw e (λ z. let w : ⊥ = omega arith in w)
+    go false e = rw e (small-not (settled-number (move (b .held) p) (b .memory)) (omega arith))
+book-never-7 b (Close buffer) = go (isSmall buffer) refl
+  where
+    go : (t : Bool) → isSmall buffer ≡ t → bookCall b (Close buffer) .number ≢ 7
+    go true e = rw e (λ z. let w : ⊥ = omega arith in w)
+    go false e = rw e (close-number (b .held) (b .memory))
+
+never-7 : (cs : List Call) (b : Book) → Never7 (bookReplies b cs)
+never-7 [] b = tt
+never-7 (c ∷ cs) b = (book-never-7 b c, never-7 cs (bookCall b c .book))
+
+-- ---- pieces handed on
+
+pub uses-some : (b : Book) (x : ℕ) (p : List ℕ) → 1 ≤ bookTake b (x ∷ p) .used
+uses-some b x p = go (whole (move (b .held) (x ∷ p) .held)) refl
+  where
+    first : (t : Bool) → whole (b .held ++ (x ∷ [])) ≡ t → 1 ≤ move (b .held) (x ∷ p) .used
+    first true w = rw w (omega arith)
+    first false w = rw w (omega arith)
+
+    go : (t : Bool) → whole (move (b .held) (x ∷ p) .held) ≡ t → 1 ≤ bookTake b (x ∷ p) .used
+    go true e = rw e (first (whole (b .held ++ (x ∷ []))) refl)
+    go false e = rw e (first (whole (b .held ++ (x ∷ []))) refl)
+
+map-append : (xs ys : List ℕ) → map byte (xs ++ ys) ≡ map byte xs ++ map byte ys
+map-append [] ys = refl
+map-append (x ∷ xs) ys = ap {B = List Item} (λ l. byte x ∷ l) (map-append xs ys)
+
+handed-all : (buffers : List (List ℕ)) (b : Book) (piece : List ℕ) → AllLarge buffers → length piece ≤ length buffers → joinedFrom b (handedOn b piece buffers) ≡ map byte piece
+handed-all [] b [] a l = refl
+handed-all [] b (x ∷ p) a l = absurd (omega arith)
+handed-all (buffer ∷ buffers) b [] a l = refl
+handed-all (buffer ∷ buffers) b (x ∷ p) a l =
+    let e = bookTake b (x ∷ p) in
+    let c : bookCall b (Take (x ∷ p) buffer) ≡ e = rw (a .0) refl in
+    let r = handed-all buffers (e .book) (drop (e .used) (x ∷ p)) (a .1) (omega (arith, length-drop (e .used) (x ∷ p), uses-some b x p)) in
+    ap (λ (y : Entry). map byte (take (y .used) (x ∷ p)) ++ joinedFrom (y .book) (handedOn (e .book) (drop (e .used) (x ∷ p)) buffers)) c
+    ∙ ap (λ (i : List Item). map byte (take (e .used) (x ∷ p)) ++ i) r
+    ∙ sym (map-append (take (e .used) (x ∷ p)) (drop (e .used) (x ∷ p)))
+    ∙ ap (map byte) (take-append-drop (e .used) (x ∷ p))
+
+joined-append : (cs ds : List Call) (b : Book) → joinedFrom b (cs ++ ds) ≡ joinedFrom b cs ++ joinedFrom (bookAfter b cs) ds
+joined-append [] ds b = refl
+joined-append (c ∷ cs) ds b =
+    ap (λ (i : List Item). movedBy c (bookCall b c) ++ i) (joined-append cs ds (bookCall b c .book))
+    ∙ sym (append-assoc (movedBy c (bookCall b c)) (joinedFrom (bookCall b c .book) cs) (joinedFrom (bookAfter (bookCall b c .book) cs) ds))
+
+-- ---- demand 3
+
+as-book : (cs : List Call) → run cs ≡ bookReplies emptyBook cs
+as-book cs = ap (λ (s : State). serviceRun s cs) (sym fresh-whole) ∙ run-book cs emptyBook whole-none
+
+as-answers : (cs : List Call) → written (run cs) ≡ answersFrom (emptyBook .memory) (pointsOf cs)
+as-answers cs = ap written (as-book cs) ∙ written-points cs emptyBook whole-none
+
+pub demand-3 : Demand3
+demand-3 =
+    record {
+      book = as-book;
+      never7 = λ cs. subst Never7 (sym (as-book cs)) (never-7 cs emptyBook);
+      partition = λ cs. part-right (joined cs);
+      onlyPartition = λ cs. part-unique (joined cs);
+      answers = as-answers;
+      fresh = λ cs. subst (FreshAfter cs) (sym (as-book cs)) (fresh-after cs emptyBook);
+      held = λ cs. ap (λ (s : State). stateAfter s cs .frame) (sym fresh-whole) ∙ state-after cs emptyBook whole-none;
+      isolated = λ cs ds a. subst₂ (SameAnswers (pointsOf cs) (pointsOf ds)) (sym (as-answers cs)) (sym (as-answers ds)) (same-answers (emptyBook .memory) (emptyBook .memory) a);
+      handed = λ cs piece buffers a l.
+          joined-append cs (handedOn (bookAfter emptyBook cs) piece buffers) emptyBook ∙ ap (λ (i : List Item). joined cs ++ i) (handed-all buffers (bookAfter emptyBook cs) piece a l);
+    }
+
+-- ---- demand 1
+
+not-good : (s : State) → Typed s → (Left (s .frame) → ⊥) → isGood s ≡ false
+unfolding isGood
+not-good s t n = go (isLeft (s .frame)) refl
+  where
+    go : (t : Bool) → isLeft (s .frame) ≡ t → isGood s ≡ false
+    go true e = absurd (n (left-test (s .frame) (t .places) .0 e))
+    go false e = rw e refl
+
+uses-one : (s : State) (x : ℕ) (p buffer : List ℕ) → takeOf s (x ∷ p) buffer .number ≢ 6 → takeOf s (x ∷ p) buffer .number ≢ 7 → 1 ≤ takeOf s (x ∷ p) buffer .used
+unfolding takeOf
+uses-one s x p buffer = go (isSmall buffer) (isGood s) refl refl
+  where
+    go : (t g : Bool) → isSmall buffer ≡ t → isGood s ≡ g → takeOf s (x ∷ p) buffer .number ≢ 6 → takeOf s (x ∷ p) buffer .number ≢ 7 → 1 ≤ takeOf s (x ∷ p) buffer .used
+    go true g e f = rw e (λ n m. absurd (n refl))
+    go false true e f = rw (e, f) (λ n m. uses-some (bookOf s) x p)
+    go false false e f = rw (e, f) (λ n m. absurd (m refl))
+
+settled-none : (h : List ℕ) (c : Memory) → settled (record { held = h; used = 0 }) c .used ≡ 0
+settled-none h c = go (whole h) refl
+  where
+    go : (t : Bool) → whole h ≡ t → settled (record { held = h; used = 0 }) c .used ≡ 0
+    go true e = rw e refl
+    go false e = rw e refl
+
+uses-none : (s : State) (buffer : List ℕ) → takeOf s [] buffer .used ≡ 0
+unfolding takeOf
+uses-none s buffer = go (isSmall buffer) (isGood s) refl refl
+  where
+    go : (t g : Bool) → isSmall buffer ≡ t → isGood s ≡ g → takeOf s [] buffer .used ≡ 0
+    go true g e f = rw e refl
+    go false true e f = rw (e, f) (settled-none (bookOf s .held) (bookOf s .memory))
+    go false false e f = rw (e, f) refl
+
+take-refuses : (s : State) (p buffer : List ℕ) → isGood s ≡ false → isSmall buffer ≡ false → takeOf s p buffer ≡ untouched 7 s buffer
+unfolding takeOf
+take-refuses s p buffer g e = rw (e, g) refl
+
+close-refuses : (s : State) (buffer : List ℕ) → isGood s ≡ false → isSmall buffer ≡ false → closeOf s buffer ≡ untouched 7 s buffer
+unfolding closeOf
+close-refuses s buffer g e = rw (e, g) refl
+
+pub demand-1 : Demand1
+demand-1 =
+    record {
+      takeRefuses = λ s p buffer t n e. take-refuses s p buffer (not-good s t n) e;
+      closeRefuses = λ s buffer t n e. close-refuses s buffer (not-good s t n) e;
+      take = take-book;
+      close = close-book;
+      never7 = book-never-7;
+      uses = uses-one;
+      usesNone = uses-none;
+    }

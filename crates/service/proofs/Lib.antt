@@ -1,0 +1,6 @@
+pub mod Memory
+pub mod Simulation
+pub mod Partition
+pub mod Streams
+pub mod Calls
+pub mod Demands

@@ -1,0 +1,48 @@
+-- What the other proofs use of the memory: the state's view of it decides the answers, and goes on by the views alone. Assumes nothing.
+use Prim.Native.Nat.{ℕ, _+_, _≤_}
+use mathlib.Core.Path.{_≡_, refl}
+use mathlib.Core.List.{List}
+use mathlib.Core.Bool.{true, false}
+use native.Mathlib.Omega.{arith}
+use lib.ListN.{length, drop}
+use lib.Dec.{eqb}
+use borrow.Author.Tests.{ne-eqb}
+use Rattle.frames.specs.Frame.{Answer, answerRoom, answerOf, bodyLength}
+use Rattle.frames.proofs.Answers.{answer-length as frame-length, answer-number as frame-number}
+use Rattle.partial_frame.specs.State.{emptyFrame, frameOf}
+use Rattle.partial_frame.proofs.Held.{answer-held}
+use Rattle.service.specs.Memory.{Memory, View, viewOf, recalled, isView, stateWith, answerWith, remembered, showsMemory}
+use Rattle.service.specs.Service.{freshState}
+
+-- an answer has four bytes at least and no more than there is room for, and its number is a sender's refusal or 0
+pub answer-length : (v : View) (f : List ℕ) → (4 ≤ length (answerWith v f .bytes)) × (length (answerWith v f .bytes) ≤ answerRoom)
+unfolding answerOf
+answer-length v f = frame-length (bodyLength f) (drop 2 f)
+
+pub answer-some : (v : View) (f : List ℕ) → eqb (length (answerWith v f .bytes)) 0 ≡ false
+answer-some v f = let h = answer-length v f .0 in ne-eqb (length (answerWith v f .bytes)) 0 (λ z. let w : ⊥ = omega arith in w)
+
+pub answer-number : (v : View) (f : List ℕ) → answerWith v f .number ≤ 5
+unfolding answerOf
+answer-number v f = frame-number (bodyLength f) (drop 2 f)
+
+-- whole frames that leave one state get one answer
+pub answer-alike : (v : View) (f g : List ℕ) → frameOf f ≡ frameOf g → length f ≤ 2 + bodyLength f → answerWith v f ≡ answerWith v g
+answer-alike v f g e l = answer-held f g e l
+
+pub remembered-alike : (f g : List ℕ) (a : Answer) (m n : Memory) → frameOf f ≡ frameOf g → length f ≤ 2 + bodyLength f → viewOf m ≡ viewOf n → viewOf (remembered f a m) ≡ viewOf (remembered g a n)
+remembered-alike f g a m n e l v = refl
+
+pub view-recalled : (m : Memory) → viewOf (recalled (viewOf m)) ≡ viewOf m
+view-recalled m = refl
+
+pub view-good : (m : Memory) → isView (viewOf m) ≡ true
+view-good m = refl
+
+-- a frame whose answer does not show the memory has one answer
+pub answer-apart : (v w : View) (f : List ℕ) → showsMemory f ≡ false → answerWith v f ≡ answerWith w f
+answer-apart v w f e = refl
+
+-- with no bytes in the book the state is the fresh one
+pub fresh-with : (m : Memory) → stateWith emptyFrame (viewOf m) ≡ freshState
+fresh-with m = refl

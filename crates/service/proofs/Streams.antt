@@ -1,0 +1,154 @@
+-- The joined bytes part into the frames that the book answered, call by call. Assumes nothing.
+use Prim.Native.Nat.{ℕ}
+use mathlib.Core.Path.{_≡_, refl, sym, ap, ap₂, _∙_}
+use mathlib.Core.Logic.{_≢_}
+use mathlib.Core.List.{List, [], _∷_, _++_, map}
+use mathlib.Core.Bool.{Bool, true, false, cond}
+use lib.ListN.{length, take}
+use lib.Seq.{take-append-seam}
+use Rattle.frames.specs.Frame.{whole, refusalFrame}
+use Rattle.partial_frame.specs.State.{frameOf}
+use Rattle.service.specs.Memory.{Memory, viewOf, stateWith, answerWith, remembered}
+use Rattle.service.proofs.Memory.{answer-some, answer-apart, fresh-with}
+use native.Mathlib.Omega.{arith}
+use Rattle.partial_frame.specs.declared.PartialFrame.{PartialFrame}
+use Rattle.service.specs.Book.{Book, stateOf, emptied, Call, Take, Close, Moved, Reply, move, answered, closedWith, bookCall, replyOf, bufferOf, bookReplies, isSmall}
+use Rattle.service.specs.Stream.{Item, byte, movedBy, joinedFrom, Point, frame, closed, Parts, onePoint, partedFrom, answersFrom, writtenBy, written}
+use Rattle.service.specs.Service.{freshState, stateAfter}
+use Rattle.service.specs.Demands.{Ended, FreshAfter, Alike, SameAnswers}
+use Rattle.partial_frame.proofs.Held.{empty-held}
+use Rattle.service.proofs.Simulation.{held-short, call-book, move-whole, move-on}
+
+-- what comes after the movedBy bytes is parted from where the book then stands
+abbrev after : Moved → List Item → Parts
+after m is = cond (whole (m .held)) (onePoint (frame (m .held)) (partedFrom [] is)) (partedFrom (m .held) is)
+
+part-moved : (p h : List ℕ) (is : List Item) → whole h ≡ false → partedFrom h (map byte (take (move h p .used) p) ++ is) ≡ after (move h p) is
+part-moved [] h is n = rw n refl
+part-moved (b ∷ p) h is n = go (whole (h ++ (b ∷ []))) refl (part-moved p (h ++ (b ∷ [])) is)
+  where
+    go : (t : Bool) → whole (h ++ (b ∷ [])) ≡ t
+        → (whole (h ++ (b ∷ [])) ≡ false → partedFrom (h ++ (b ∷ [])) (map byte (take (move (h ++ (b ∷ [])) p .used) p) ++ is) ≡ after (move (h ++ (b ∷ [])) p) is)
+        → partedFrom h (map byte (take (move h (b ∷ p) .used) (b ∷ p)) ++ is) ≡ after (move h (b ∷ p)) is
+    go true w ih = rw (move-whole p h b w, w) refl
+    go false w ih = rw (move-on p h b w, w) (ih w)
+
+close-held : (h : List ℕ) (c : Memory) → closedWith h c .book ≡ record { held = []; memory = c }
+close-held [] c = refl
+close-held (b ∷ h) c = refl
+
+-- the points of one call
+abbrev pointsBy : Book → Call → List Point
+pointsBy h (Take p buffer) = cond (isSmall buffer) [] (cond (whole (move (h .held) p .held)) (frame (move (h .held) p .held) ∷ []) [])
+pointsBy h (Close buffer) = cond (isSmall buffer) [] (closed (h .held) ∷ [])
+
+-- one call's points, then those of the rest of the calls
+part-call : (c : Call) (h : Book) (is : List Item) → whole (h .held) ≡ false
+    → partedFrom (h .held) (movedBy c (bookCall h c) ++ is) ≡ record { points = pointsBy h c ++ partedFrom (bookCall h c .book .held) is .points; rest = partedFrom (bookCall h c .book .held) is .rest }
+part-call (Take p buffer) h is n = go (isSmall buffer) (whole (move (h .held) p .held)) refl refl
+  where
+    go : (s t : Bool) → isSmall buffer ≡ s → whole (move (h .held) p .held) ≡ t
+        → partedFrom (h .held) (movedBy (Take p buffer) (bookCall h (Take p buffer)) ++ is) ≡ record { points = pointsBy h (Take p buffer) ++ partedFrom (bookCall h (Take p buffer) .book .held) is .points; rest = partedFrom (bookCall h (Take p buffer) .book .held) is .rest }
+    go true t e f = rw e refl
+    go false true e f = rw (e, f) (part-moved p (h .held) is n ∙ rw f refl)
+    go false false e f = rw (e, f) (part-moved p (h .held) is n ∙ rw f refl)
+part-call (Close buffer) h is n = go (isSmall buffer) refl
+  where
+    go : (t : Bool) → isSmall buffer ≡ t → partedFrom (h .held) (movedBy (Close buffer) (bookCall h (Close buffer)) ++ is) ≡ record { points = pointsBy h (Close buffer) ++ partedFrom (bookCall h (Close buffer) .book .held) is .points; rest = partedFrom (bookCall h (Close buffer) .book .held) is .rest }
+    go true e = rw e refl
+    go false e = rw (e, close-held (h .held) (h .memory)) refl
+
+-- the memory behind some points
+abbrev memoryAfter : Memory → List Point → Memory
+memoryAfter c [] = c
+memoryAfter c (frame f ∷ ps) = memoryAfter (remembered f (answerWith (viewOf c) f) c) ps
+memoryAfter c (closed h ∷ ps) = memoryAfter c ps
+
+answers-append : (ps qs : List Point) (c : Memory) → answersFrom c (ps ++ qs) ≡ answersFrom c ps ++ answersFrom (memoryAfter c ps) qs
+answers-append [] qs c = refl
+answers-append (frame f ∷ ps) qs c =
+    ap {B = List (List ℕ)} (λ l. answerWith (viewOf c) f .bytes ∷ l) (answers-append ps qs (remembered f (answerWith (viewOf c) f) c))
+answers-append (closed [] ∷ ps) qs c = answers-append ps qs c
+answers-append (closed (b ∷ h) ∷ ps) qs c = ap {B = List (List ℕ)} (λ l. refusalFrame 8 ∷ l) (answers-append ps qs c)
+
+memory-call : (c : Call) (h : Book) → memoryAfter (h .memory) (pointsBy h c) ≡ bookCall h c .book .memory
+memory-call (Take p buffer) h = go (isSmall buffer) (whole (move (h .held) p .held)) refl refl
+  where
+    go : (s t : Bool) → isSmall buffer ≡ s → whole (move (h .held) p .held) ≡ t → memoryAfter (h .memory) (pointsBy h (Take p buffer)) ≡ bookCall h (Take p buffer) .book .memory
+    go true t e f = rw e refl
+    go false true e f = rw (e, f) refl
+    go false false e f = rw (e, f) refl
+memory-call (Close buffer) h = go (isSmall buffer) refl
+  where
+    go : (t : Bool) → isSmall buffer ≡ t → memoryAfter (h .memory) (pointsBy h (Close buffer)) ≡ bookCall h (Close buffer) .book .memory
+    go true e = rw e refl
+    go false e = rw (e, close-held (h .held) (h .memory)) refl
+
+written-call : (c : Call) (h : Book) → writtenBy (replyOf (bookCall h c) (bufferOf c)) ≡ answersFrom (h .memory) (pointsBy h c)
+written-call (Take p buffer) h = go (isSmall buffer) (whole (move (h .held) p .held)) refl refl
+  where
+    go : (s t : Bool) → isSmall buffer ≡ s → whole (move (h .held) p .held) ≡ t → writtenBy (replyOf (bookCall h (Take p buffer)) buffer) ≡ answersFrom (h .memory) (pointsBy h (Take p buffer))
+    go true t e f = rw e refl
+    go false true e f =
+        rw (e, f, answer-some (viewOf (h .memory)) (move (h .held) p .held))
+        (ap (λ (a : List ℕ). a ∷ []) (take-append-seam (answerWith (viewOf (h .memory)) (move (h .held) p .held) .bytes) _))
+    go false false e f = rw (e, f) refl
+written-call (Close buffer) h = go (isSmall buffer) refl
+  where
+    close-written : (k : List ℕ) → writtenBy (replyOf (closedWith k (h .memory)) buffer) ≡ answersFrom (h .memory) (closed k ∷ [])
+    close-written [] = refl
+    close-written (b ∷ k) = refl
+
+    go : (t : Bool) → isSmall buffer ≡ t → writtenBy (replyOf (bookCall h (Close buffer)) buffer) ≡ answersFrom (h .memory) (pointsBy h (Close buffer))
+    go true e = rw e refl
+    go false e = rw e (close-written (h .held))
+
+pub written-points : (cs : List Call) (h : Book) → whole (h .held) ≡ false → written (bookReplies h cs) ≡ answersFrom (h .memory) (partedFrom (h .held) (joinedFrom h cs) .points)
+written-points [] h n = refl
+written-points (c ∷ cs) h n =
+    let b = bookCall h c .book in
+    let ps = partedFrom (b .held) (joinedFrom b cs) .points in
+    ap₂ {C = List (List ℕ)} (λ x y. x ++ y) (written-call c h) (written-points cs b (held-short c h n))
+    ∙ ap (λ (k : Memory). answersFrom (h .memory) (pointsBy h c) ++ answersFrom k ps) (sym (memory-call c h))
+    ∙ sym (answers-append (pointsBy h c) ps (h .memory))
+    ∙ sym (ap (λ (q : Parts). answersFrom (h .memory) (q .points)) (part-call c h (joinedFrom b cs) n))
+
+-- a book that holds no byte shows the fresh state
+emptied-fresh : (m : Memory) → stateOf (emptied m) ≡ freshState
+emptied-fresh m = ap (λ (s : PartialFrame). stateWith s (viewOf m)) empty-held ∙ fresh-with m
+
+fresh-call : (c : Call) (h : Book) → Ended c (replyOf (bookCall h c) (bufferOf c)) → stateOf (bookCall h c .book) ≡ freshState
+fresh-call (Take p buffer) h = go (isSmall buffer) (whole (move (h .held) p .held)) refl refl
+  where
+    go : (s t : Bool) → isSmall buffer ≡ s → whole (move (h .held) p .held) ≡ t → length (bookCall h (Take p buffer) .answer) ≢ 0 → stateOf (bookCall h (Take p buffer) .book) ≡ freshState
+    go true t e f = rw e (λ z. absurd (z refl))
+    go false true e f = rw (e, f) (λ z. emptied-fresh (answered (move (h .held) p) (h .memory) .book .memory))
+    go false false e f = rw (e, f) (λ z. absurd (z refl))
+fresh-call (Close buffer) h = λ e. rw e (ap stateOf (close-held (h .held) (h .memory)) ∙ emptied-fresh (h .memory))
+
+pub fresh-after : (cs : List Call) (h : Book) → FreshAfter cs (bookReplies h cs)
+fresh-after [] h = FreshAfter.none
+fresh-after (c ∷ cs) h = FreshAfter.call (fresh-call c h) (fresh-after cs (bookCall h c .book))
+
+same-closings : {ps qs : List Point} (h k : List ℕ) (c d : Memory) → length h ≡ length k → SameAnswers ps qs (answersFrom c ps) (answersFrom d qs)
+    → SameAnswers (closed h ∷ ps) (closed k ∷ qs) (answersFrom c (closed h ∷ ps)) (answersFrom d (closed k ∷ qs))
+same-closings [] [] c d e r = SameAnswers.silent r
+same-closings [] (b ∷ k) c d e r = absurd (omega arith)
+same-closings (a ∷ h) [] c d e r = absurd (omega arith)
+same-closings (a ∷ h) (b ∷ k) c d e r = SameAnswers.closings r
+
+-- whatever the two remember, only a frame that shows the memory can tell
+pub same-answers : {ps qs : List Point} (c d : Memory) → Alike ps qs → SameAnswers ps qs (answersFrom c ps) (answersFrom d qs)
+same-answers c d Alike.none = SameAnswers.none
+same-answers c d (Alike.frames {f} {g} t r) =
+    SameAnswers.frames
+    (λ e n. ap (λ a. a .bytes) (answer-apart (viewOf c) (viewOf d) f n) ∙ ap (λ x. answerWith (viewOf d) x .bytes) e)
+    (same-answers (remembered f (answerWith (viewOf c) f) c) (remembered g (answerWith (viewOf d) g) d) r)
+same-answers c d (Alike.closings {h} {k} l t r) = same-closings h k c d l (same-answers c d r)
+
+pub state-after : (cs : List Call) (h : Book) → whole (h .held) ≡ false → stateAfter (stateOf h) cs .frame ≡ frameOf (partedFrom (h .held) (joinedFrom h cs) .rest)
+state-after [] h n = refl
+state-after (c ∷ cs) h n =
+    ap (λ (r : Reply). stateAfter (r .state) cs .frame) (call-book c h n)
+    ∙ state-after cs (bookCall h c .book) (held-short c h n)
+    ∙ sym (ap (λ (q : Parts). frameOf (q .rest)) (part-call c h (joinedFrom (bookCall h c .book) cs) n))

@@ -1,0 +1,131 @@
+// The weigher on standard input and output: it reads, hands on what it read, and writes the answers before it reads again. At the end of
+// the input it closes the service. A read that fails and an output that takes nothing more end it with a line on standard error.
+//
+// All that decides an answer is in the crates service and delivery.
+use frames::ANSWER_ROOM;
+use libc::STDIN_FILENO;
+use libc::STDOUT_FILENO;
+use service::State;
+ghost use mathlib.Core.Path.{_≡_};
+ghost use mathlib.Core.Bool.{true};
+ghost use Prim.Native.Nat.{_≤_};
+ghost use lib.ListN.{length};
+ghost use Rattle.frames.specs.Frame.{answerRoom};
+ghost use Rattle.service.specs.Service.{isGood};
+
+// Room for the answers to one read, so that one write follows it: a frame of two bytes has four bytes of answer, no frame has more for
+// its length, and the last take asks for ANSWER_ROOM.
+const ANSWERS: usize = 131588;
+
+fn answer_space() -> [u8; ANSWERS]
+    ensures { λ r. ⌜ 131588 ≡ length r ⌝ }
+{
+    [0; ANSWERS]
+}
+
+// One read. One that a signal interrupts is made again; the count of turns outlasts any machine.
+fn read_some(buf: &mut [u8]) -> isize {
+    let mut turns = u64::MAX;
+    while turns > 0 {
+        let got = libc::read(STDIN_FILENO, buf);
+        if got >= 0 {
+            return got;
+        }
+        if os::errno() != libc::EINTR {
+            return got;
+        }
+        turns -= 1;
+    }
+    -1
+}
+
+// Writes all of bytes: the rest again after a short write, and all again after one that a signal interrupts. False where the output
+// takes no more.
+fn write_out(bytes: &[u8]) -> bool {
+    let mut done = 0;
+    let mut turns = u64::MAX;
+    while done < bytes.len() {
+        if turns == 0 {
+            return false;
+        }
+        let rest = &bytes[done..];
+        let put = libc::write(STDOUT_FILENO, rest);
+        if put == 0 {
+            return false;
+        }
+        if put < 0 {
+            if os::errno() != libc::EINTR {
+                return false;
+            }
+        }
+        done += io::count(put, rest);
+        turns -= 1;
+    }
+    true
+}
+
+struct Served {
+    state: State,
+    written: bool,
+}
+
+// Hands a piece on to its end, and writes every answer.
+fn serve(state: State, piece: &[u8], space: &mut [u8]) -> Served
+    requires { ⌜ (isGood state ≡ true) × (answerRoom ≤ length (now space)) ⌝ }
+    ensures { λ r. ⌜ isGood (r .state) ≡ true ⌝ }
+{
+    let mut state = state;
+    let mut at = 0;
+    while at < piece.len() {
+        let handed = delivery::hand_on(state, &piece[at..], space);
+        let len = handed.len;
+        state = handed.state;
+        if !write_out(&space[..len]) {
+            return Served {
+                state,
+                written: false,
+            };
+        }
+        at += handed.used;
+    }
+    Served {
+        state,
+        written: true,
+    }
+}
+
+// The end of the input: an unfinished frame is refused.
+fn finish(state: State) {
+    let mut answer = [0u8; ANSWER_ROOM];
+    let closed = service::close(state, &mut answer);
+    let len = closed.len;
+    if !write_out(&answer[..len]) {
+        os::fail(b"standard output");
+    }
+}
+
+fn main() {
+    let mut input = io::large_buffer();
+    let mut space = answer_space();
+    let mut state = service::fresh();
+    let mut turns = u64::MAX;
+    while turns > 0 {
+        let got = read_some(&mut input);
+        if got == 0 {
+            finish(state);
+            return;
+        }
+        if got < 0 {
+            os::fail(b"standard input");
+            return;
+        }
+        let n = io::count(got, &input);
+        let served = serve(state, &input[..n], &mut space);
+        state = served.state;
+        if !served.written {
+            os::fail(b"standard output");
+            return;
+        }
+        turns -= 1;
+    }
+}
