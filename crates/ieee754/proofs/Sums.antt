@@ -19,7 +19,7 @@ use Rattle.rounding.specs.declared.Direction.{Direction}
 use Rattle.rounding.specs.Rounding.{roundTo}
 use Rattle.rounding.specs.Machine.{signBit, Stands, Rounds}
 use Rattle.ieee754.specs.Operations.{sumTo, zeroSign}
-use Rattle.ieee754.specs.Machine.{Addends, Ready}
+use Rattle.ieee754.specs.Machine.{Addends, Ready, RoundsSum}
 use Rattle.ieee754.proofs.Reading.{zero-bits}
 
 -- ---- `sumTo` by its cases
@@ -203,8 +203,8 @@ sub-fits x y w W X e h = go (2 ^ 128) W X e
         (le-or-gt N (w + y))
 
 module _ (d : Direction) (s t : Bool) {A B c x y e : ℕ} (S U D : Wide) (hS : value S ≡ x + y) (hU : x ≤ y → value U ≡ y - x) (hD : y ≤ x → value D ≡ x - y) (h : Addends A B c x y e) (r : ℕ) where
-  pub picked-answer : (same under : Bool) → same ≡ Bool·beq s t → under ≡ ltb x y → 0 < value (cond same S (cond under U D)) → Rounds d (cond under t s) (value (cond same S (cond under U D))) e r → r ≡ toBits binary64 (sumTo d s A t B c)
-  picked-answer true under p u P f = add-answer h d s t r l (subst (λ (w : ℕ). Rounds d s w e r) hS (subst (λ (z : Bool). Rounds d z (value S) e r) (sign under) f))
+  pub picked-answer : (same under : Bool) → same ≡ Bool·beq s t → under ≡ ltb x y → 0 < x → RoundsSum d (cond under t s) (value (cond same S (cond under U D))) e r → r ≡ toBits binary64 (sumTo d s A t B c)
+  picked-answer true under p u X f = add-answer h d s t r l (subst (λ (w : ℕ). Rounds d s w e r) hS (subst (λ (z : Bool). Rounds d z (value S) e r) (sign under) (f .1 (some x y (value S) X hS))))
     where
       l : s ≡ t
       l = beq-true s t (sym p)
@@ -212,27 +212,29 @@ module _ (d : Direction) (s t : Bool) {A B c x y e : ℕ} (S U D : Wide) (hS : v
       sign : (b : Bool) → cond b t s ≡ s
       sign true = sym l
       sign false = refl
-  picked-answer false true p u P f = let l : x < y = ltb-true x y (sym u) in over-answer h d s t r (beq-false s t (sym p)) l (subst (λ (w : ℕ). Rounds d t w e r) (hU (le-of-lt l)) f)
-  picked-answer false false p u P f =
-      let q = hD (ltb-false x y (sym u)) in
-      sub-answer h d s t r (beq-false s t (sym p)) (more x y (value D) P q) (subst (λ (w : ℕ). Rounds d s w e r) q f)
-    where
-      more : (x y d : ℕ) → 0 < d → d ≡ x - y → y < x
-      more x y d p q = omega arith
 
-  pub picked-zero : (same under : Bool) → same ≡ Bool·beq s t → under ≡ ltb x y → 0 < x → value (cond same S (cond under U D)) ≡ 0 → r ≡ signBit (zeroSign d) → r ≡ toBits binary64 (sumTo d s A t B c)
-  picked-zero true under p u X z q = absurd (none x y (value S) X hS z)
+      some : (x y w : ℕ) → 0 < x → w ≡ x + y → 0 < w
+      some x y w a b = omega arith
+  picked-answer false true p u X f =
+      let l : x < y = ltb-true x y (sym u) in
+      let q = hU (le-of-lt l) in
+      over-answer h d s t r (beq-false s t (sym p)) l (subst (λ (w : ℕ). Rounds d t w e r) q (f .1 (some x y (value U) l q)))
     where
-      none : (x y w : ℕ) → 0 < x → w ≡ x + y → w ≡ 0 → ⊥
-      none x y w a b c = omega arith
-  picked-zero false true p u X z q = let l : x < y = ltb-true x y (sym u) in absurd (none x y (value U) l (hU (le-of-lt l)) z)
+      some : (x y w : ℕ) → x < y → w ≡ y - x → 0 < w
+      some x y w a b = omega arith
+  picked-answer false false p u X f =
+      let l : y ≤ x = ltb-false x y (sym u) in
+      let q = hD l in
+      ⊎-elim
+      (λ (g : x ≤ y). let k = le-antisymm g l in same-answer h d s t r (beq-false s t (sym p)) k (f .0 (none x y (value D) k q)))
+      (λ (g : y < x). sub-answer h d s t r (beq-false s t (sym p)) g (subst (λ (w : ℕ). Rounds d s w e r) q (f .1 (some x y (value D) g q))))
+      (le-or-gt x y)
     where
-      none : (x y w : ℕ) → x < y → w ≡ y - x → w ≡ 0 → ⊥
-      none x y w a b c = omega arith
-  picked-zero false false p u X z q = let l : y ≤ x = ltb-false x y (sym u) in same-answer h d s t r (beq-false s t (sym p)) (equal x y (value D) l (hD l) z) q
-    where
-      equal : (x y w : ℕ) → y ≤ x → w ≡ x - y → w ≡ 0 → x ≡ y
-      equal x y w a b c = omega arith
+      none : (x y w : ℕ) → x ≡ y → w ≡ x - y → w ≡ 0
+      none x y w a b = omega arith
+
+      some : (x y w : ℕ) → y < x → w ≡ x - y → 0 < w
+      some x y w a b = omega arith
 
 -- ---- two numbers, brought to one exponent
 

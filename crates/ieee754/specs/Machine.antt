@@ -7,7 +7,9 @@ use lib.IntN.{ℤ, pos, negsuc}
 use lib.Dec.{leb, ltb}
 use lib.Ieee.{ofBits, binary64}
 use lib.Ieee.Exact.{HasValue}
-use Rattle.rounding.specs.Machine.{Stands}
+use Rattle.rounding.specs.declared.Direction.{Direction}
+use Rattle.rounding.specs.Machine.{signBit, Stands, Rounds}
+use Rattle.ieee754.specs.Operations.{zeroSign}
 use Rattle.ieee754.specs.declared.parts.Parts.{Parts}
 
 -- ---- patterns
@@ -59,3 +61,7 @@ pub record Addends (A B c x y e : ℕ) : Type 0 where
   pub second : Stands 2273 B c y e
   pub far : (B * 2 ^ 2273 ≡ y * 2 ^ e * c) ⊎ (y + 2 ^ 64 ≤ x)
   pub even : x % 2 ≡ 0
+
+-- r is the pattern of what w stands for, rounded, where 0 is an exact zero sum of unlike signs
+abbrev pub RoundsSum : Direction → Bool → ℕ → ℕ → ℕ → Type 0
+RoundsSum d s w e r = (w ≡ 0 → r ≡ signBit (zeroSign d)) × (0 < w → Rounds d s w e r)

@@ -9,7 +9,7 @@ ghost use Rattle.wide.specs.Words.{value};
 ghost use Rattle.rounding.specs.declared.Direction.{Direction};
 ghost use Rattle.rounding.specs.Rounding.{roundTo};
 ghost use Rattle.ieee754.specs.Operations.{zeroSign, sumTo, plus, exactly, infinite, fusedBits};
-ghost use Rattle.ieee754.specs.Machine.{magnitude, Regular, Normal, Ready, productSize, addendSize, Addends};
+ghost use Rattle.ieee754.specs.Machine.{magnitude, Regular, Normal, Ready, productSize, addendSize, Addends, RoundsSum};
 use crate::parts::NAN;
 use crate::parts::Parts;
 use crate::parts::is_regular;
@@ -19,6 +19,7 @@ use crate::parts::unlike_signs;
 use rounding::Direction;
 use rounding::INFINITY;
 use rounding::SIGN;
+use rounding::round_normal;
 use rounding::round_wide;
 use rounding::sign_bit;
 use wide::Wide;
@@ -44,6 +45,36 @@ fn zero_sign(dir: Direction) -> bool
     }
 }
 
+// w at the exponent e, rounded and packed; zero is an exact zero sum of unlike signs.
+fn round_sum(dir: Direction, neg: bool, w: Wide, e: u64) -> u64
+    requires { ⌜ e ≤ 4194 ⌝ }
+    ensures { λ r. ⌜ RoundsSum dir neg (value w) e r ⌝ }
+{
+    if wide::is_zero(w) {
+        sign_bit(zero_sign(dir))
+    } else {
+        round_wide(dir, neg, w, e)
+    }
+}
+
+// The same, short where the sum is surely rounded to a normal number.
+fn round_usual(dir: Direction, neg: bool, w: Wide, e: u64) -> u64
+    requires { ⌜ e ≤ 4194 ⌝ }
+    ensures { λ r. ⌜ RoundsSum dir neg (value w) e r ⌝ }
+{
+    let hi = w.hi;
+    if hi == 0 {
+        return round_sum(dir, neg, w, e);
+    }
+    if e < 1187 {
+        return round_sum(dir, neg, w, e);
+    }
+    if 3168 < e {
+        return round_sum(dir, neg, w, e);
+    }
+    round_normal(dir, neg, w, e)
+}
+
 // ±x ±y at the exponent e, rounded and packed. The sum and both differences are made, and one of them is picked: the
 // signs and the order of random operands would be mispredicted as branches.
 fn add_signed(dir: Direction, s: bool, x: Wide, t: bool, y: Wide, e: u64) -> u64
@@ -55,11 +86,7 @@ fn add_signed(dir: Direction, s: bool, x: Wide, t: bool, y: Wide, e: u64) -> u64
     let down = wide::sub(x, y);
     let under = wide::less(x, y);
     let w = wide::pick(s == t, sum, wide::pick(under, up, down));
-    if wide::is_zero(w) {
-        sign_bit(zero_sign(dir))
-    } else {
-        round_wide(dir, pick_sign(under, t, s), w, e)
-    }
+    round_usual(dir, pick_sign(under, t, s), w, e)
 }
 
 // ±p * 2^pe ±q * 2^qe, rounded and packed.

@@ -3,8 +3,9 @@
 // was cut off below it; the contracts say of which exact numbers it is the significand (`Stands` of specs/Machine.antt).
 ghost use mathlib.Core.Path.{_≡_};
 ghost use Prim.Native.Nat.{ℕ, _+_, _-_, _*_, _%_, _^_, _≤_, _<_};
+ghost use lib.Count.{leadingZeros};
 ghost use lib.Ieee.{toBits, binary64};
-ghost use Rattle.wide.specs.Words.{value};
+ghost use Rattle.wide.specs.Words.{value, jammed};
 ghost use Rattle.rounding.specs.Rounding.{whole, roundTo};
 ghost use Rattle.rounding.specs.Machine.{signBit, overflowBits, boundedBits, packed, toNearest, roundsAway, increment, Stands, Rounds};
 use wide::Wide;
@@ -108,15 +109,23 @@ pub fn round_shift(dir: Direction, neg: bool, m: u64, k: u64) -> u64
     q + ((rest + rounding_increment(dir, neg, q % 2, k)) >> k)
 }
 
-// m * 2^e in units of 2^-2337, rounded: the pattern without a sign, an infinity's or more where the result overflows.
-// It is the quotient, plus a step of the exponent field for each digit that is dropped beyond the 11 of the least normal
-// number, so that a carry moves on into the field by itself.
+// m * 2^e in units of 2^-2337, at least the least normal number, rounded: the pattern without a sign, an infinity's or more where the
+// result overflows. It is the quotient, plus a step of the exponent field for each digit that is dropped beyond the 11 of the least
+// normal number, so that a carry moves on into the field by itself.
+fn normal_bits(dir: Direction, neg: bool, m: u64, e: u64) -> u64
+    requires { ⌜ (2 ^ 63 ≤ m) × (1252 ≤ e) × (e ≤ 4322) ⌝ }
+    ensures { λ r. ⌜ (r ≤ (e - 1250) * 0x10000000000000) × ((num den : ℕ) → Stands 2337 num den m e → toBits binary64 (roundTo dir binary64 neg num den) ≡ packed dir neg r) ⌝ }
+{
+    (e - 1252) * LEADING + round_shift(dir, neg, m, 11)
+}
+
+// m * 2^e in units of 2^-2337, rounded, subnormal or normal.
 fn round_bits(dir: Direction, neg: bool, m: u64, e: u64) -> u64
     requires { ⌜ (2 ^ 63 ≤ m) × (e ≤ 4322) ⌝ }
     ensures { λ r. ⌜ ((num den : ℕ) → Stands 2337 num den m e → toBits binary64 (roundTo dir binary64 neg num den) ≡ packed dir neg r) ⌝ }
 {
     if 1252 <= e {
-        return (e - 1252) * LEADING + round_shift(dir, neg, m, 11);
+        return normal_bits(dir, neg, m, e);
     }
     let half = wide::set_sticky(m / 2, m % 2);
     if 1199 <= e {
@@ -135,7 +144,18 @@ pub fn round_pack(dir: Direction, neg: bool, m: u64, e: u64) -> u64
     pack(dir, neg, round_bits(dir, neg, m, e))
 }
 
-// w * 2^e in units of 2^-2273, rounded and packed: its 64 leading digits are taken, and a sticky bit stands for the others.
+// The 64 leading digits of w, with a sticky bit for the others.
+fn leading_digits(w: Wide) -> u64
+    requires { ⌜ 0 < w .hi ⌝ }
+    ensures { λ r. ⌜ (2 ^ 63 ≤ r) × (r ≡ jammed (value w) (2 ^ (64 - leadingZeros 64 (w .hi)))) ⌝ }
+{
+    let hi = w.hi;
+    let lo = w.lo;
+    let z = u64::leading_zeros(hi) as u64;
+    wide::set_sticky((hi << z) + (lo / 2 >> (63 - z)), lo << z)
+}
+
+// w * 2^e in units of 2^-2273, rounded and packed.
 pub fn round_wide(dir: Direction, neg: bool, w: Wide, e: u64) -> u64
     requires { ⌜ (0 < value w) × (e ≤ 4194) ⌝ }
     ensures { λ r. ⌜ Rounds dir neg (value w) e r ⌝ }
@@ -147,7 +167,16 @@ pub fn round_wide(dir: Direction, neg: bool, w: Wide, e: u64) -> u64
         round_pack(dir, neg, lo << z, e + 64 - z)
     } else {
         let z = u64::leading_zeros(hi) as u64;
-        let top = (hi << z) + (lo / 2 >> (63 - z));
-        round_pack(dir, neg, wide::set_sticky(top, lo << z), e + 128 - z)
+        round_pack(dir, neg, leading_digits(w), e + 128 - z)
     }
+}
+
+// The same, where the result is surely a normal number. It is short enough to stand in its caller's body, which knows the direction.
+pub fn round_normal(dir: Direction, neg: bool, w: Wide, e: u64) -> u64
+    requires { ⌜ (0 < w .hi) × (1187 ≤ e) × (e ≤ 3168) ⌝ }
+    ensures { λ r. ⌜ Rounds dir neg (value w) e r ⌝ }
+{
+    let hi = w.hi;
+    let z = u64::leading_zeros(hi) as u64;
+    sign_bit(neg) + normal_bits(dir, neg, leading_digits(w), e + 128 - z)
 }

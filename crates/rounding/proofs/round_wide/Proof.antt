@@ -7,7 +7,7 @@ use borrow.Author.Needs.{needs}
 use native.Mathlib.Omega.{arith}
 use Rattle.wide.specs.Words.{value}
 use Rattle.rounding.specs.Machine.{Stands}
-use Rattle.rounding.proofs.Leading.{Leads, leads, top-fits, top-jammed, top-low, stands-top, stands-word}
+use Rattle.rounding.proofs.Leading.{Leads, leads, stands-top, stands-word}
 use Rattle.rounding.proofs.round_wide.Statement.{statement}
 use Rattle.rounding.proofs.round_wide.Tie as tie
 
@@ -20,11 +20,11 @@ low-word c = let s = c .before in leads (s .args .w .lo) (some (s .args .w .hi) 
     some : (h l : ℕ) → h ≡ 0 → 0 < h * 2 ^ 64 + l → 0 < l
     some h l e p = subst (λ (x : ℕ). 0 < x) (ap (λ (x : ℕ). x * 2 ^ 64 + l) e ∙ zero-add l) p
 
+some : (h : ℕ) → (h ≡ 0 → ⊥) → 0 < h
+some h n = omega arith
+
 high-word : (c : tie.Else1) → Leads (c .before .args .w .hi) (leadingZeros 64 (c .before .args .w .hi))
 high-word c = let s = c .before in leads (s .args .w .hi) (some (s .args .w .hi) (c .if1 .left)) (s .good .1 .1 .0 .1 .1 .0 .1)
-  where
-    some : (h : ℕ) → (h ≡ 0 → ⊥) → 0 < h
-    some h n = omega arith
 
 bound : (e k z : ℕ) → e ≤ 4194 → k ≤ 128 → e + k - z ≤ 4322
 bound e k z h l = omega arith
@@ -50,23 +50,8 @@ round-pack-requires c κs =
 cast-z-2 : tie.Need-cast-z-2
 cast-z-2 c = omega (arith, high-word c)
 
-shl-top : tie.Need-shl-top
-shl-top c = omega (arith, high-word c)
-
-sub-top : tie.Need-sub-top
-sub-top c = omega (arith, high-word c)
-
-shr-top : tie.Need-shr-top
-shr-top c = omega (arith, high-word c)
-
-add-top : tie.Need-add-top
-add-top c = let w = c .before .args .w in record { fits = top-fits (w .hi) (w .lo) (leadingZeros 64 (w .hi)) (low-lt (c .before)) (high-word c) }
-
-shl-set-sticky : tie.Need-shl-set-sticky
-shl-set-sticky c = omega (arith, high-word c)
-
-set-sticky-requires : tie.Need-set-sticky-requires
-set-sticky-requires c κs = search needs
+leading-digits-requires : tie.Need-leading-digits-requires
+leading-digits-requires c κs = some (c .before .args .w .hi) (c .if1 .left)
 
 add-round-pack-2 : tie.Need-add-round-pack-2
 add-round-pack-2 c = search needs
@@ -75,11 +60,7 @@ sub-round-pack-2 : tie.Need-sub-round-pack-2
 sub-round-pack-2 c = omega (arith, high-word (c .before))
 
 round-pack-requires-2 : tie.Need-round-pack-requires-2
-round-pack-requires-2 c κs =
-    let w = c .before .before .args .w in (
-      top-low (w .hi) (w .lo) (leadingZeros 64 (w .hi)) (low-lt (c .before .before)) (high-word (c .before)) (c .set-sticky .result) (c .set-sticky .ensures),
-      bound (c .before .before .args .e) 128 (leadingZeros 64 (w .hi)) (c .before .before .pre .1) (omega arith),
-    )
+round-pack-requires-2 c κs = let s = c .before .before in (c .leading-digits .ensures .0, bound (s .args .e) 128 (leadingZeros 64 (s .args .w .hi)) (s .pre .1) (omega arith))
 
 returns : tie.Need-returns
 returns c =
@@ -100,9 +81,7 @@ returns-2 c =
     let k = c .before in
     let t = k .before in
     let s = t .before in
-    let w = s .args .w in
-    let z = leadingZeros 64 (w .hi) in
-    c .round-pack2 .ensures num den (stands-top (k .set-sticky .result) z (high-word t .few) h (top-jammed (w .hi) (w .lo) z (low-lt s) (high-word t) (k .set-sticky .result) (k .set-sticky .ensures)))
+    c .round-pack2 .ensures num den (stands-top (k .leading-digits .result) (leadingZeros 64 (s .args .w .hi)) (high-word t .few) h (k .leading-digits .ensures .1))
 
 pub round-wide-spec : {M : Type 1} → statement M
-round-wide-spec = tie.close (tie.spec cast-z shl-round-pack add-round-pack sub-round-pack round-pack-requires cast-z-2 shl-top sub-top shr-top add-top shl-set-sticky set-sticky-requires add-round-pack-2 sub-round-pack-2 round-pack-requires-2 returns returns-2)
+round-wide-spec = tie.close (tie.spec cast-z shl-round-pack add-round-pack sub-round-pack round-pack-requires cast-z-2 leading-digits-requires add-round-pack-2 sub-round-pack-2 round-pack-requires-2 returns returns-2)

@@ -3,18 +3,13 @@ use mathlib.Core.Path.{_≡_, refl, sym, ap, _∙_, subst}
 use mathlib.Core.Bool.{Bool, cond, Bool·beq}
 use Prim.Native.Nat.{ℕ, _+_, _-_, _≤_, _<_}
 use lib.Arith.{digits-lt}
-use borrow.Author.Tests.{eqb-true, eqb-false}
 use borrow.Author.Needs.{needs}
-use native.Mathlib.Omega.{arith}
 use Rattle.wide.specs.declared.Wide.{Wide}
 use Rattle.wide.specs.Words.{value}
-use Rattle.rounding.specs.Machine.{signBit, Rounds}
-use Rattle.ieee754.proofs.Sums.{add-fits, sub-fits, picked-answer, picked-zero}
+use Rattle.ieee754.specs.Machine.{RoundsSum}
+use Rattle.ieee754.proofs.Sums.{add-fits, sub-fits, picked-answer}
 use Rattle.ieee754.proofs.multiply_add.add_signed.Statement.{statement}
 use Rattle.ieee754.proofs.multiply_add.add_signed.Tie as tie
-
-some : (x : ℕ) → (x ≡ 0 → ⊥) → 0 < x
-some x n = omega arith
 
 -- the sum and both differences
 record Made (x y : ℕ) (S U D : Wide) : Type 0 where
@@ -65,52 +60,25 @@ pick-requires c κs = search needs
 pick-requires-2 : tie.Need-pick-requires-2
 pick-requires-2 c κs = search needs
 
-is-zero-requires : tie.Need-is-zero-requires
-is-zero-requires c κs = search needs
-
-zero-sign-requires : tie.Need-zero-sign-requires
-zero-sign-requires c κs = search needs
-
-sign-bit-requires : tie.Need-sign-bit-requires
-sign-bit-requires c κs = search needs
-
 pick-sign-requires : tie.Need-pick-sign-requires
 pick-sign-requires c κs = search needs
 
-round-wide-requires : tie.Need-round-wide-requires
-round-wide-requires c κs =
-    let z = c .before .before in
-    let w = z .before .pick2 .result in
-    (some (value w) (eqb-false (value w) 0 (sym (z .is-zero .ensures) ∙ c .before .if1 .left)), z .before .before .before .before .before .before .before .pre .0)
+round-usual-requires : tie.Need-round-usual-requires
+round-usual-requires c κs = search needs
 
 returns : tie.Need-returns
 returns c =
     λ A B k h.
     let g = c .before in
-    let z = g .before .before in
-    let p2 = z .before in
+    let p2 = g .before in
     let l = p2 .before .before in
-    let a = l .before .before .before .before .args in
+    let s = l .before .before .before .before in
+    let a = s .args in
     let m = made l in
-    picked-zero (a .dir) (a .s) (a .t) (l .before .before .before .add .result) (l .before .before .sub .result) (l .before .sub2 .result) (m .sum) (m .up) (m .down) h (c .sign-bit .result)
-    (Bool·beq (a .s) (a .t)) (l .less .result) refl (l .less .ensures) (l .before .before .before .before .pre .1)
-    (sym (ap value (what p2)) ∙ eqb-true (value (p2 .pick2 .result)) 0 (sym (z .is-zero .ensures) ∙ g .before .if1 .taken))
-    (c .sign-bit .ensures ∙ ap signBit (g .zero-sign .ensures))
-
-returns-2 : tie.Need-returns-2
-returns-2 c =
-    λ A B k h.
-    let g = c .before in
-    let z = g .before .before in
-    let p2 = z .before in
-    let l = p2 .before .before in
-    let a = l .before .before .before .before .args in
-    let m = made l in
-    picked-answer (a .dir) (a .s) (a .t) (l .before .before .before .add .result) (l .before .before .sub .result) (l .before .sub2 .result) (m .sum) (m .up) (m .down) h (c .round-wide .result)
-    (Bool·beq (a .s) (a .t)) (l .less .result) refl (l .less .ensures)
-    (subst (λ (w : Wide). 0 < value w) (what p2) (some (value (p2 .pick2 .result)) (eqb-false (value (p2 .pick2 .result)) 0 (sym (z .is-zero .ensures) ∙ g .before .if1 .left))))
-    (subst (λ (w : Wide). Rounds (a .dir) (cond (l .less .result) (a .t) (a .s)) (value w) (a .e) (c .round-wide .result)) (what p2)
-    (subst (λ (b : Bool). Rounds (a .dir) b (value (p2 .pick2 .result)) (a .e) (c .round-wide .result)) (g .pick-sign .ensures) (c .round-wide .ensures)))
+    picked-answer (a .dir) (a .s) (a .t) (l .before .before .before .add .result) (l .before .before .sub .result) (l .before .sub2 .result) (m .sum) (m .up) (m .down) h (c .round-usual .result)
+    (Bool·beq (a .s) (a .t)) (l .less .result) refl (l .less .ensures) (s .pre .1)
+    (subst (λ (w : Wide). RoundsSum (a .dir) (cond (l .less .result) (a .t) (a .s)) (value w) (a .e) (c .round-usual .result)) (what p2)
+    (subst (λ (b : Bool). RoundsSum (a .dir) b (value (p2 .pick2 .result)) (a .e) (c .round-usual .result)) (g .pick-sign .ensures) (c .round-usual .ensures)))
 
 pub add-signed-spec : {M : Type 1} → statement M
-add-signed-spec = tie.close (tie.spec add-requires sub-requires sub-requires-2 less-requires pick-requires pick-requires-2 is-zero-requires zero-sign-requires sign-bit-requires pick-sign-requires round-wide-requires returns returns-2)
+add-signed-spec = tie.close (tie.spec add-requires sub-requires sub-requires-2 less-requires pick-requires pick-requires-2 pick-sign-requires round-usual-requires returns)
