@@ -144,6 +144,14 @@ pub fn round_pack(dir: Direction, neg: bool, m: u64, e: u64) -> u64
     pack(dir, neg, round_bits(dir, neg, m, e))
 }
 
+// The same, where the result is surely a normal number.
+fn pack_normal(dir: Direction, neg: bool, m: u64, e: u64) -> u64
+    requires { ⌜ (2 ^ 63 ≤ m) × (1252 ≤ e) × (e ≤ 3296) ⌝ }
+    ensures { λ r. ⌜ ((num den : ℕ) → Stands 2337 num den m e → r ≡ toBits binary64 (roundTo dir binary64 neg num den)) ⌝ }
+{
+    sign_bit(neg) + normal_bits(dir, neg, m, e)
+}
+
 // The 64 leading digits of w, with a sticky bit for the others.
 fn leading_digits(w: Wide) -> u64
     requires { ⌜ 0 < w .hi ⌝ }
@@ -178,5 +186,14 @@ pub fn round_normal(dir: Direction, neg: bool, w: Wide, e: u64) -> u64
 {
     let hi = w.hi;
     let z = u64::leading_zeros(hi) as u64;
-    sign_bit(neg) + normal_bits(dir, neg, leading_digits(w), e + 128 - z)
+    pack_normal(dir, neg, leading_digits(w), e + 128 - z)
+}
+
+// The same for one word.
+pub fn round_word(dir: Direction, neg: bool, w: u64, e: u64) -> u64
+    requires { ⌜ (0 < w) × (1251 ≤ e) × (e ≤ 3232) ⌝ }
+    ensures { λ r. ⌜ Rounds dir neg w e r ⌝ }
+{
+    let z = u64::leading_zeros(w) as u64;
+    pack_normal(dir, neg, w << z, e + 64 - z)
 }
