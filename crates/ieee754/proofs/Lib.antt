@@ -1,7 +1,7 @@
 -- What the functions compute, over plain numbers, by subject.
 pub mod Reading
-mod Sums
-mod Products
+pub mod Sums
+pub mod Products
 mod Special
 mod WholeNumbers
 mod Powers

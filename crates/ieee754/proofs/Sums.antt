@@ -163,13 +163,13 @@ module _ {A B c x y e : ℕ} (h : Addends A B c x y e) where
     add-answer : s ≡ t → Rounds d s (x + y) e r → r ≡ toBits binary64 (sumTo d s A t B c)
     add-answer l f = f (A + B) c add-stands add-exact ∙ ap (toBits binary64) (sym (sum-like d s A B c) ∙ ap (λ (u : Bool). sumTo d s A u B c) l)
 
-    sub-answer : (s ≡ t → ⊥) → y < x → Rounds d s (x - y) e r → r ≡ toBits binary64 (sumTo d s A t B c)
+    pub sub-answer : (s ≡ t → ⊥) → y < x → Rounds d s (x - y) e r → r ≡ toBits binary64 (sumTo d s A t B c)
     sub-answer n l f = f (A - B) c (sub-stands l) sub-exact ∙ ap (toBits binary64) (sym (sum-more d s t A B c n (sub-order l)))
 
-    over-answer : (s ≡ t → ⊥) → x < y → Rounds d t (y - x) e r → r ≡ toBits binary64 (sumTo d s A t B c)
+    pub over-answer : (s ≡ t → ⊥) → x < y → Rounds d t (y - x) e r → r ≡ toBits binary64 (sumTo d s A t B c)
     over-answer n l f = f (B - A) c (stands-just (h .second .den-pos) (over-exact l)) (λ u. over-exact l) ∙ ap (toBits binary64) (sym (sum-less d s t A B c n (over-order l)))
 
-    same-answer : (s ≡ t → ⊥) → x ≡ y → r ≡ signBit (zeroSign d) → r ≡ toBits binary64 (sumTo d s A t B c)
+    pub same-answer : (s ≡ t → ⊥) → x ≡ y → r ≡ signBit (zeroSign d) → r ≡ toBits binary64 (sumTo d s A t B c)
     same-answer n l q = q ∙ zero-bits (zeroSign d) ∙ ap (toBits binary64) (sym (sum-same d s t A B c n (even-order l)))
 
 -- ---- the sum or a difference, picked by the signs and the order
