@@ -1,8 +1,8 @@
 -- What is left of a product when c is taken off it, over plain numbers. Assumes nothing.
-use mathlib.Core.Path.{_≡_, refl, sym, ap, ap₂, _∙_, subst}
+use mathlib.Core.Path.{_≡_, refl, sym, ap, _∙_, subst}
 use mathlib.Core.Logic.{_≢_, _⊎_, inl, inr, ⊎-elim}
 use Prim.Native.Nat.{ℕ, _+_, _-_, _*_, _/_, _%_, _^_, _≤_, _<_}
-use native.Mathlib.Nat.{le-of-eq, lt-of-lt-of-le, lt-of-le-of-lt, le-antisymm, mod-eq-of-lt, add-mod-left, add-comm, mul-comm, mul-assoc, mul-left-comm, add-mul, mul-mod-left, zero-add, div-add-mod', mul-le-mul-left, mul-le-mul-right, mul-lt-mul-of-pos-right, le-trans, le-of-lt}
+use native.Mathlib.Nat.{lt-of-lt-of-le, lt-of-le-of-lt, mod-eq-of-lt, add-mod-left, add-comm, mul-comm, mul-assoc, mul-left-comm, add-mul, mul-mod-left, zero-add, div-add-mod', mul-le-mul-left, mul-lt-mul-of-pos-right, le-trans, le-of-lt}
 use native.Mathlib.Omega.{arith}
 use mathlib.Core.Bool.{Bool, true, false, cond}
 use lib.Dec.{lit≤}

@@ -1,8 +1,6 @@
 -- `product_error::pack_rest` meets its contract. Assumes nothing.
 use mathlib.Core.Path.{_≡_, refl, subst}
 use mathlib.Core.Bool.{Bool, true, false, not, cond, Bool·beq}
-use Prim.Native.Nat.{ℕ, _<_}
-use native.Mathlib.Omega.{arith}
 use Rattle.rounding.specs.declared.Direction.the-variants.{Nearest}
 use Rattle.rounding.specs.Machine.{Rounds}
 use borrow.Author.Needs.{needs}

@@ -1,6 +1,6 @@
 -- `rounding::round_word` meets its contract. Assumes nothing.
 use mathlib.Core.Path.{sym, subst}
-use Prim.Native.Nat.{ℕ, _+_, _-_, _*_, _^_, _≤_}
+use Prim.Native.Nat.{ℕ, _+_, _-_, _^_, _≤_}
 use native.Mathlib.Nat.{mod-eq-of-lt}
 use lib.Count.{leadingZeros}
 use borrow.Author.Needs.{needs}

@@ -1,7 +1,7 @@
 -- `ieee754::multiply_add::add_signed` meets its contract. The sum and both differences are made modulo 2 ^ 128; the one that is picked fits. Assumes nothing.
-use mathlib.Core.Path.{_≡_, refl, sym, ap, _∙_, subst}
+use mathlib.Core.Path.{_≡_, refl, ap, _∙_, subst}
 use mathlib.Core.Bool.{Bool, cond, Bool·beq}
-use Prim.Native.Nat.{ℕ, _+_, _-_, _≤_, _<_}
+use Prim.Native.Nat.{ℕ, _+_, _-_, _≤_}
 use lib.Arith.{digits-lt}
 use borrow.Author.Needs.{needs}
 use Rattle.wide.specs.declared.Wide.{Wide}
