@@ -57,6 +57,6 @@ pub fn a_mul(a: f64, b: f64) -> Pair
     ensures exact { λ r. ⌜ ProductExact a b r ⌝ }
 {
     let hi = a * b;
-    let lo = math::fma_residual(a, b, -hi);
+    let lo = math::fma(a, b, -hi);
     Pair { hi, lo }
 }

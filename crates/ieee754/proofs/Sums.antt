@@ -24,11 +24,11 @@ use Rattle.ieee754.proofs.Reading.{zero-bits}
 
 -- ---- `sumTo` by its cases
 
-beq-same : (s : Bool) → Bool·beq s s ≡ true
+pub beq-same : (s : Bool) → Bool·beq s s ≡ true
 beq-same true = refl
 beq-same false = refl
 
-beq-other : (s t : Bool) → (s ≡ t → ⊥) → Bool·beq s t ≡ false
+pub beq-other : (s t : Bool) → (s ≡ t → ⊥) → Bool·beq s t ≡ false
 beq-other true true h = absurd (h refl)
 beq-other true false h = refl
 beq-other false true h = refl
@@ -160,7 +160,7 @@ module _ {A B c x y e : ℕ} (h : Addends A B c x y e) where
   -- ---- what a rounding of the sum or of a difference answers
 
   module _ (d : Direction) (s t : Bool) (r : ℕ) where
-    add-answer : s ≡ t → Rounds d s (x + y) e r → r ≡ toBits binary64 (sumTo d s A t B c)
+    pub add-answer : s ≡ t → Rounds d s (x + y) e r → r ≡ toBits binary64 (sumTo d s A t B c)
     add-answer l f = f (A + B) c add-stands add-exact ∙ ap (toBits binary64) (sym (sum-like d s A B c) ∙ ap (λ (u : Bool). sumTo d s A u B c) l)
 
     pub sub-answer : (s ≡ t → ⊥) → y < x → Rounds d s (x - y) e r → r ≡ toBits binary64 (sumTo d s A t B c)

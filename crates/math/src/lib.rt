@@ -30,14 +30,7 @@ pub fn from_bits(b: u64) -> f64
 pub fn fma(x: f64, y: f64, z: f64) -> f64
     ensures { λ r. ⌜ r ≡ fusedMultiplyAdd Nearest x y z ⌝ }
 {
-    from_bits(ieee754::fused(to_bits(x), to_bits(y), to_bits(z)))
-}
-
-// The same, quick where z is -(x * y), rounded.
-pub fn fma_residual(x: f64, y: f64, z: f64) -> f64
-    ensures { λ r. ⌜ r ≡ fusedMultiplyAdd Nearest x y z ⌝ }
-{
-    from_bits(product_error::fused(to_bits(x), to_bits(y), to_bits(z)))
+    from_bits(fast_fused::fused(to_bits(x), to_bits(y), to_bits(z)))
 }
 
 // The nearest whole number, a tie to the even one.

@@ -1,12 +1,12 @@
--- `product_error::read_normal` meets its contract. Assumes nothing.
+-- `fast_fused::read_normal` meets its contract. Assumes nothing.
 use mathlib.Core.Path.{_≡_, refl}
 use Prim.Native.Nat.{ℕ, suc, _+_, _-_, _%_, _/_, _≤_, _<_}
 use native.Mathlib.Omega.{arith}
 use Rattle.ieee754.proofs.Reading.{reads-mid}
-use Rattle.product_error.specs.Machine.{fieldOf}
+use Rattle.fast_fused.specs.Machine.{fieldOf}
 use borrow.Author.Needs.{needs}
-use Rattle.product_error.proofs.read_normal.Statement.{statement}
-use Rattle.product_error.proofs.read_normal.Tie as tie
+use Rattle.fast_fused.proofs.read_normal.Statement.{statement}
+use Rattle.fast_fused.proofs.read_normal.Tie as tie
 
 one-more : (x : ℕ) → 1 ≤ x → x ≡ suc (x - 1)
 one-more x h = omega arith

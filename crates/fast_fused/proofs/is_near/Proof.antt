@@ -1,11 +1,11 @@
--- `product_error::is_level` meets its contract. Assumes nothing.
+-- `fast_fused::is_near` meets its contract. Assumes nothing.
 use mathlib.Core.Path.{sym}
 use mathlib.Core.Bool.{true≢false}
 use Prim.Native.Nat.{_+_}
 use borrow.Author.Tests.{leb-true}
 use borrow.Author.Needs.{needs}
-use Rattle.product_error.proofs.is_level.Statement.{statement}
-use Rattle.product_error.proofs.is_level.Tie as tie
+use Rattle.fast_fused.proofs.is_near.Statement.{statement}
+use Rattle.fast_fused.proofs.is_near.Tie as tie
 
 is-middle-requires : tie.Need-is-middle-requires
 is-middle-requires c κs = search needs
@@ -31,7 +31,7 @@ returns c =
     let t2 = c .before in
     let t1 = t2 .before .before in
     let a = t1 .before .before .args in
-    record { first = t1 .before .is-middle .ensures (t1 .if1 .taken); second = t2 .before .is-middle2 .ensures (t2 .if2 .taken); over = c .if3 .taken; under = leb-true (a .z + 1022) (a .x + a .y) e }
+    record { first = t1 .before .is-middle .ensures (t1 .if1 .taken); second = t2 .before .is-middle2 .ensures (t2 .if2 .taken); over = c .if3 .taken; under = leb-true (a .z + 1003) (a .x + a .y) e }
 
 returns-2 : tie.Need-returns-2
 returns-2 c = λ e. absurd (true≢false (sym e))
@@ -42,5 +42,17 @@ returns-3 c = λ e. absurd (true≢false (sym e))
 returns-4 : tie.Need-returns-4
 returns-4 c = λ e. absurd (true≢false (sym e))
 
-pub is-level-spec : {M : Type 1} → statement M
-is-level-spec = tie.close (tie.spec is-middle-requires is-middle-requires-2 add-if3 add-if3-2 add-result add-result-2 returns returns-2 returns-3 returns-4)
+pub is-near-spec : {M : Type 1} → statement M
+is-near-spec =
+    tie.close
+    (tie.spec
+    is-middle-requires
+    is-middle-requires-2
+    add-if3
+    add-if3-2
+    add-result
+    add-result-2
+    returns
+    returns-2
+    returns-3
+    returns-4)

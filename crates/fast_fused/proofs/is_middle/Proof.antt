@@ -1,9 +1,9 @@
--- `product_error::is_middle` meets its contract. Assumes nothing.
+-- `fast_fused::is_middle` meets its contract. Assumes nothing.
 use mathlib.Core.Path.{sym}
 use mathlib.Core.Bool.{true≢false}
 use borrow.Author.Needs.{needs}
-use Rattle.product_error.proofs.is_middle.Statement.{statement}
-use Rattle.product_error.proofs.is_middle.Tie as tie
+use Rattle.fast_fused.proofs.is_middle.Statement.{statement}
+use Rattle.fast_fused.proofs.is_middle.Tie as tie
 
 returns : tie.Need-returns
 returns c = λ e. absurd (true≢false (sym e))

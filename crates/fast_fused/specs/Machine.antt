@@ -1,0 +1,31 @@
+-- What the functions of this crate say of each other. Nothing here is part of what an operation means. Definitions only.
+use mathlib.Core.Path.{_≡_}
+use mathlib.Core.Logic.{_≢_, _⊎_}
+use Prim.Native.Nat.{ℕ, _+_, _/_, _≤_, _<_}
+use mathlib.Core.Bool.{Bool}
+use Rattle.ieee754.specs.declared.parts.Parts.{Parts}
+use Rattle.ieee754.specs.Machine.{magnitude, Normal}
+
+-- the exponent field
+abbrev pub fieldOf : ℕ → ℕ
+fieldOf b = magnitude b / 0x10000000000000
+
+-- three exponent fields: the last digit of the third's number is one of the product of the others, or at most 20 above it
+pub record Near (x y z : ℕ) : Type 0 where
+  pub first : (600 ≤ x) × (x < 1500)
+  pub second : (600 ≤ y) × (y < 1500)
+  pub over : x + y ≤ z + 1075
+  pub under : z + 1003 ≤ x + y
+
+-- the same of the parts
+pub record NearParts (x y z : Parts) : Type 0 where
+  pub first : Normal x
+  pub second : Normal y
+  pub third : Normal z
+  pub over : x .e + y .e ≤ z .e + 1126
+  pub under : z .e + 1054 ≤ x .e + y .e
+
+-- w with the sign neg is p with the sign s and q with the sign t, added
+pub record SumOf (s t : Bool) (p q : ℕ) (neg : Bool) (w : ℕ) : Type 0 where
+  pub like : s ≡ t → (neg ≡ s) × (w ≡ p + q)
+  pub unlike : s ≢ t → ((neg ≡ s) × (p ≡ q + w)) ⊎ ((neg ≡ t) × (q ≡ p + w))

@@ -1,0 +1,151 @@
+// Fused multiply-add once more, quick where the exponents are near each other: the product and c then lie in two words with all their
+// digits, and neither is shifted down. Every other operand is handed to `ieee754::fused`.
+ghost use mathlib.Core.Path.{_≡_};
+ghost use mathlib.Core.Bool.{true, cond};
+ghost use Prim.Native.Nat.{_+_, _-_, _*_, _^_, _≤_, _<_};
+ghost use Rattle.wide.specs.Words.{value};
+ghost use Rattle.rounding.specs.declared.Direction.the-variants.{Nearest};
+ghost use Rattle.ieee754.specs.Operations.{fusedBits};
+ghost use Rattle.ieee754.specs.Machine.{Reads, RoundsSum};
+ghost use Rattle.fast_fused.specs.Machine.{fieldOf, Near, NearParts, SumOf};
+use ieee754::parts::Parts;
+use ieee754::parts::negative;
+use ieee754::parts::unlike_signs;
+use rounding::Direction;
+use rounding::LEADING;
+use rounding::SIGN;
+use wide::Wide;
+
+// The exponent field.
+fn field(b: u64) -> u64
+    ensures { λ r. ⌜ r ≡ fieldOf b ⌝ }
+{
+    b % SIGN / LEADING
+}
+
+// Whether an exponent field is far from both ends.
+fn is_middle(x: u64) -> bool
+    ensures { λ r. ⌜ (r ≡ true → (600 ≤ x) × (x < 1500)) ⌝ }
+{
+    if x < 600 { false } else { x < 1500 }
+}
+
+// Whether the last digit of c, of the field z, is a digit of the product of a and b, of the fields x and y, or not far above it.
+fn is_near(x: u64, y: u64, z: u64) -> bool
+    requires { ⌜ (x < 2048) × (y < 2048) × (z < 2048) ⌝ }
+    ensures { λ r. ⌜ (r ≡ true → Near x y z) ⌝ }
+{
+    if is_middle(x) {
+        if is_middle(y) {
+            if x + y <= z + 1075 {
+                return z + 1003 <= x + y;
+            }
+        }
+    }
+    false
+}
+
+// The parts of a normal number.
+fn read_normal(b: u64) -> Parts
+    requires { ⌜ (1 ≤ fieldOf b) × (fieldOf b < 2047) ⌝ }
+    ensures { λ r. ⌜ Reads b r × (r .e ≡ fieldOf b + 51) ⌝ }
+{
+    Parts {
+        m: LEADING + b % LEADING,
+        e: b % SIGN / LEADING + 51,
+    }
+}
+
+// m * 2^k.
+fn shift_left(m: u64, k: u64) -> Wide
+    requires { ⌜ (m < 2 ^ 53) × (1 ≤ k) × (k ≤ 73) ⌝ }
+    ensures { λ r. ⌜ value r ≡ m * 2 ^ k ⌝ }
+{
+    if k < 64 {
+        Wide {
+            hi: m >> (64 - k),
+            lo: m << k,
+        }
+    } else {
+        Wide {
+            hi: m << (k - 64),
+            lo: 0,
+        }
+    }
+}
+
+// A number with a sign.
+pub struct Signed {
+    pub neg: bool,
+    pub size: Wide,
+}
+
+fn pick_sign(b: bool, x: bool, y: bool) -> bool
+    ensures { λ r. ⌜ r ≡ cond b x y ⌝ }
+{
+    if b { x } else { y }
+}
+
+// ±p ±q. The sum and both differences are made, and one of them is picked.
+fn add_signed(s: bool, p: Wide, t: bool, q: Wide) -> Signed
+    requires { ⌜ (value p < 2 ^ 127) × (value q < 2 ^ 127) ⌝ }
+    ensures { λ r. ⌜ SumOf s t (value p) (value q) (r .neg) (value (r .size)) ⌝ }
+{
+    let sum = wide::add(p, q);
+    let down = wide::sub(p, q);
+    let up = wide::sub(Wide { hi: 0, lo: 0 }, down);
+    let under = SIGN <= down.hi;
+    let rest = wide::pick(under, up, down);
+    Signed {
+        neg: pick_sign(s == t, s, pick_sign(under, t, s)),
+        size: wide::pick(s == t, sum, rest),
+    }
+}
+
+// ±x * y ±z, in units of half of the product's last digit.
+fn exact_sum(s: bool, x: Parts, y: Parts, t: bool, z: Parts) -> Signed
+    requires { ⌜ NearParts x y z ⌝ }
+    ensures { λ r. ⌜ SumOf s t (x .m * 2 * y .m) (z .m * 2 ^ (z .e + 1127 - (x .e + y .e))) (r .neg) (value (r .size)) ⌝ }
+{
+    let p = wide::multiply(x.m * 2, y.m);
+    add_signed(s, p, t, shift_left(z.m, z.e + 1127 - (x.e + y.e)))
+}
+
+fn round_exact(neg: bool, w: Wide, e: u64) -> u64
+    requires { ⌜ (1251 ≤ e) × (e ≤ 3168) ⌝ }
+    ensures { λ r. ⌜ RoundsSum Nearest neg (value w) e r ⌝ }
+{
+    let hi = w.hi;
+    let lo = w.lo;
+    if hi == 0 {
+        if lo == 0 {
+            0
+        } else {
+            rounding::round_word(Direction::Nearest, neg, lo, e)
+        }
+    } else {
+        rounding::round_normal(Direction::Nearest, neg, w, e)
+    }
+}
+
+fn fused_near(a: u64, b: u64, c: u64) -> u64
+    requires { ⌜ Near (fieldOf a) (fieldOf b) (fieldOf c) ⌝ }
+    ensures { λ r. ⌜ r ≡ fusedBits Nearest a b c ⌝ }
+{
+    let x = read_normal(a);
+    let y = read_normal(b);
+    let z = read_normal(c);
+    let sum = exact_sum(unlike_signs(a, b), x, y, negative(c), z);
+    round_exact(sum.neg, sum.size, x.e + y.e + 20)
+}
+
+// a * b + c, rounded once to nearest.
+pub fn fused(a: u64, b: u64, c: u64) -> u64
+    ensures { λ r. ⌜ r ≡ fusedBits Nearest a b c ⌝ }
+{
+    if is_near(field(a), field(b), field(c)) {
+        fused_near(a, b, c)
+    } else {
+        ieee754::fused(a, b, c)
+    }
+}
