@@ -1,1 +1,2 @@
 pub mod NearSums
+pub mod SmallProducts

@@ -145,7 +145,7 @@ module _ (x y z : Parts) (A B c k : ℕ) (K : k + (x .e + y .e + 20) ≡ z .e + 
   second = q ∙ ap (λ (v : ℕ). v * c) (mul-assoc (z .m) (2 ^ z .e) (2 ^ 1147) ∙ ap (λ (v : ℕ). z .m * v) (sym (pow-add 2 (z .e) 1147) ∙ ap (λ (v : ℕ). 2 ^ v) (sym K) ∙ pow-add 2 k (x .e + y .e + 20)) ∙ sym (mul-assoc (z .m) (2 ^ k) (2 ^ (x .e + y .e + 20))))
 
   addends : Addends A B c (x .m * 2 * y .m) (z .m * 2 ^ k) (x .e + y .e + 20)
-  addends = record { first = first; second = stands-just C second; far = inl second; even = even (x .m) (y .m) }
+  addends = record { both = record { first = first; second = stands-just C second; even = even (x .m) (y .m) }; far = inl second }
     where
       even : (a b : ℕ) → a * 2 * b % 2 ≡ 0
       even a b = ap (λ (v : ℕ). v % 2) (mul-assoc a 2 b ∙ mul-left-comm a 2 b ∙ mul-comm 2 (a * b)) ∙ mul-mod-left (a * b) 2

@@ -25,6 +25,21 @@ pub record NearParts (x y z : Parts) : Type 0 where
   pub over : x .e + y .e ≤ z .e + 1126
   pub under : z .e + 1054 ≤ x .e + y .e
 
+-- three exponent fields: the product of the first two numbers is below 2 ^ -19 of the third
+pub record Small (x y z : ℕ) : Type 0 where
+  pub first : (600 ≤ x) × (x < 1500)
+  pub second : (600 ≤ y) × (y < 1500)
+  pub third : (600 ≤ z) × (z < 1500)
+  pub over : x + y ≤ z + 1002
+
+-- the same of the parts
+pub record SmallParts (x y z : Parts) : Type 0 where
+  pub first : Normal x
+  pub second : Normal y
+  pub third : Normal z
+  pub middle : (651 ≤ z .e) × (z .e < 1551)
+  pub over : x .e + y .e ≤ z .e + 1053
+
 -- w with the sign neg is p with the sign s and q with the sign t, added
 pub record SumOf (s t : Bool) (p q : ℕ) (neg : Bool) (w : ℕ) : Type 0 where
   pub like : s ≡ t → (neg ≡ s) × (w ≡ p + q)

@@ -1,13 +1,15 @@
 // Fused multiply-add once more, quick where the exponents are near each other: the product and c then lie in two words with all their
-// digits, and neither is shifted down. Every other operand is handed to `ieee754::fused`.
+// digits, and neither is shifted down; and quick where the product is small beside c: then nothing cancels, and one word will do. All
+// other operands are handed to `ieee754::fused`.
 ghost use mathlib.Core.Path.{_≡_};
 ghost use mathlib.Core.Bool.{true, cond};
-ghost use Prim.Native.Nat.{_+_, _-_, _*_, _^_, _≤_, _<_};
-ghost use Rattle.wide.specs.Words.{value};
+ghost use Prim.Native.Nat.{ℕ, _+_, _-_, _*_, _^_, _≤_, _<_};
+ghost use lib.Ieee.{toBits, binary64};
+ghost use Rattle.wide.specs.Words.{value, jammed};
 ghost use Rattle.rounding.specs.declared.Direction.the-variants.{Nearest};
-ghost use Rattle.ieee754.specs.Operations.{fusedBits};
-ghost use Rattle.ieee754.specs.Machine.{Reads, RoundsSum};
-ghost use Rattle.fast_fused.specs.Machine.{fieldOf, Near, NearParts, SumOf};
+ghost use Rattle.ieee754.specs.Operations.{sumTo, fusedBits};
+ghost use Rattle.ieee754.specs.Machine.{Reads, Summands, RoundsSum};
+ghost use Rattle.fast_fused.specs.Machine.{fieldOf, Near, NearParts, Small, SmallParts, SumOf};
 use ieee754::parts::Parts;
 use ieee754::parts::negative;
 use ieee754::parts::unlike_signs;
@@ -15,6 +17,8 @@ use rounding::Direction;
 use rounding::LEADING;
 use rounding::SIGN;
 use wide::Wide;
+
+// ---- operands
 
 // The exponent field.
 fn field(b: u64) -> u64
@@ -30,6 +34,19 @@ fn is_middle(x: u64) -> bool
     if x < 600 { false } else { x < 1500 }
 }
 
+// The parts of a normal number.
+fn read_normal(b: u64) -> Parts
+    requires { ⌜ (1 ≤ fieldOf b) × (fieldOf b < 2047) ⌝ }
+    ensures { λ r. ⌜ Reads b r × (r .e ≡ fieldOf b + 51) ⌝ }
+{
+    Parts {
+        m: LEADING + b % LEADING,
+        e: b % SIGN / LEADING + 51,
+    }
+}
+
+// ---- exponents that are near each other
+
 // Whether the last digit of c, of the field z, is a digit of the product of a and b, of the fields x and y, or not far above it.
 fn is_near(x: u64, y: u64, z: u64) -> bool
     requires { ⌜ (x < 2048) × (y < 2048) × (z < 2048) ⌝ }
@@ -43,17 +60,6 @@ fn is_near(x: u64, y: u64, z: u64) -> bool
         }
     }
     false
-}
-
-// The parts of a normal number.
-fn read_normal(b: u64) -> Parts
-    requires { ⌜ (1 ≤ fieldOf b) × (fieldOf b < 2047) ⌝ }
-    ensures { λ r. ⌜ Reads b r × (r .e ≡ fieldOf b + 51) ⌝ }
-{
-    Parts {
-        m: LEADING + b % LEADING,
-        e: b % SIGN / LEADING + 51,
-    }
 }
 
 // m * 2^k.
@@ -139,13 +145,86 @@ fn fused_near(a: u64, b: u64, c: u64) -> u64
     round_exact(sum.neg, sum.size, x.e + y.e + 20)
 }
 
+// ---- a product that is small beside c
+
+// Whether the product of a and b, of the fields x and y, is small beside c, of the field z: its first digit is below all digits but the
+// last 32 of c.
+fn is_small(x: u64, y: u64, z: u64) -> bool
+    requires { ⌜ (x < 2048) × (y < 2048) × (z < 2048) ⌝ }
+    ensures { λ r. ⌜ (r ≡ true → Small x y z) ⌝ }
+{
+    if is_middle(x) {
+        if is_middle(y) {
+            if is_middle(z) {
+                return x + y <= z + 1002;
+            }
+        }
+    }
+    false
+}
+
+// The high word of p, shifted down by k more, with a sticky bit.
+fn shift_down(p: Wide, k: u64) -> u64
+    ensures { λ r. ⌜ r ≡ jammed (value p) (2 ^ (64 + k)) ⌝ }
+{
+    let hi = p.hi;
+    let lo = p.lo;
+    let top = wide::set_sticky(hi, lo);
+    let n = wide::least(k, 63);
+    wide::set_sticky(top >> n, top % (1 << n))
+}
+
+// The product in the units of c's word, with a sticky bit.
+fn small_product(x: Parts, y: Parts, z: Parts) -> u64
+    requires { ⌜ SmallParts x y z ⌝ }
+    ensures { λ r. ⌜ r ≡ jammed (x .m * 1024 * (y .m * 2048)) (2 ^ (64 + (z .e + 1073 - (x .e + y .e)))) ⌝ }
+{
+    let p = wide::multiply(x.m * 1024, y.m * 2048);
+    shift_down(p, z.e + 1073 - (x.e + y.e))
+}
+
+// ±small ±large at the exponent e, rounded and packed.
+fn add_small(s: bool, small: u64, t: bool, large: u64, e: u64) -> u64
+    requires { ⌜ (small < 2 ^ 61) × (2 ^ 62 ≤ large) × (large < 2 ^ 63) × (1251 ≤ e) × (e ≤ 3232) ⌝ }
+    ensures { λ r. ⌜ ((A B c : ℕ) → Summands B A c large small e → r ≡ toBits binary64 (sumTo Nearest s A t B c)) ⌝ }
+{
+    let w = wide::pick_word(s == t, large + small, large - small);
+    rounding::round_word(Direction::Nearest, t, w, e)
+}
+
+fn fused_small(a: u64, b: u64, c: u64) -> u64
+    requires { ⌜ Small (fieldOf a) (fieldOf b) (fieldOf c) ⌝ }
+    ensures { λ r. ⌜ r ≡ fusedBits Nearest a b c ⌝ }
+{
+    let x = read_normal(a);
+    let y = read_normal(b);
+    let z = read_normal(c);
+    let small = small_product(x, y, z);
+    add_small(
+        unlike_signs(a, b),
+        small,
+        negative(c),
+        z.m * 1024,
+        z.e + 1137,
+    )
+}
+
+// ---- the call
+
 // a * b + c, rounded once to nearest.
 pub fn fused(a: u64, b: u64, c: u64) -> u64
     ensures { λ r. ⌜ r ≡ fusedBits Nearest a b c ⌝ }
 {
-    if is_near(field(a), field(b), field(c)) {
+    let x = field(a);
+    let y = field(b);
+    let z = field(c);
+    if is_near(x, y, z) {
         fused_near(a, b, c)
     } else {
-        ieee754::fused(a, b, c)
+        if is_small(x, y, z) {
+            fused_small(a, b, c)
+        } else {
+            ieee754::fused(a, b, c)
+        }
     }
 }

@@ -70,7 +70,7 @@ module _ (d : Direction) (s : Bool) (m e k r : ℕ) (lo : 2 ^ 52 ≤ m) (hi : m 
   large : (x num den : ℕ) → 4000 ≤ x → Stands 2337 num den (m * 2048) x → toBits binary64 (roundTo d binary64 s num den) ≡ signBit s + overflowBits d s
   large x num den h st =
       let b = (x - 1252) * 0x10000000000000 + whole d s (m * 2048) (2 ^ 11) in
-      bits-normal d s st (x - 1252) (omega arith) (omega arith) (omega arith)
+      bits-normal d s st (omega arith) (omega arith) (omega arith)
       ∙ ap (λ (t : Bool). signBit s + cond t b (overflowBits d s)) (le-ltb b 0x7ff0000000000000 (past x (whole d s (m * 2048) (2 ^ 11)) h))
     where
       past : (x c : ℕ) → 4000 ≤ x → 0x7ff0000000000000 ≤ (x - 1252) * 0x10000000000000 + c

@@ -19,7 +19,7 @@ use Rattle.rounding.specs.declared.Direction.{Direction}
 use Rattle.rounding.specs.Rounding.{roundTo}
 use Rattle.rounding.specs.Machine.{signBit, Stands, Rounds}
 use Rattle.ieee754.specs.Operations.{sumTo, zeroSign}
-use Rattle.ieee754.specs.Machine.{Addends, Ready, RoundsSum}
+use Rattle.ieee754.specs.Machine.{Summands, Addends, Ready, RoundsSum}
 use Rattle.ieee754.proofs.Reading.{zero-bits}
 
 -- ---- `sumTo` by its cases
@@ -94,12 +94,12 @@ less-same A B K X Y c C p q h = lt-of-mul-lt-mul-right K (lt-of-le-of-lt (le-of-
 pub stands-just : {A d w e : ℕ} → 0 < d → A * 2 ^ 2273 ≡ w * 2 ^ e * d → Stands 2273 A d w e
 stands-just {A} {d} {w} {e} D p = record { size = w * 2 ^ e; den-pos = D; same = p; cut = jam-is (pow-pos e) (just refl) }
 
-module _ {A B c x y e : ℕ} (h : Addends A B c x y e) where
+module _ {A B c x y e : ℕ} (h : Summands A B c x y e) where
   jam-second : Jam (h .second .size) (2 ^ e) y
   jam-second = jam-of (pow-pos e) (h .second .cut)
 
   -- the sum
-  add-stands : Stands 2273 (A + B) c (x + y) e
+  pub add-stands : Stands 2273 (A + B) c (x + y) e
   add-stands =
       record {
         size = x * 2 ^ e + h .second .size;
@@ -108,18 +108,8 @@ module _ {A B c x y e : ℕ} (h : Addends A B c x y e) where
         cut = jam-is (pow-pos e) (jam-add x (h .even) jam-second);
       }
 
-  add-exact : x + y < 2 ^ 64 → (A + B) * 2 ^ 2273 ≡ (x + y) * 2 ^ e * c
-  add-exact l = go (h .far)
-    where
-      no : (x y : ℕ) → x + y < 2 ^ 64 → y + 2 ^ 64 ≤ x → ⊥
-      no x y a b = omega arith
-
-      go : (B * 2 ^ 2273 ≡ y * 2 ^ e * c) ⊎ (y + 2 ^ 64 ≤ x) → (A + B) * 2 ^ 2273 ≡ (x + y) * 2 ^ e * c
-      go (inl q) = add-same A B (2 ^ 2273) (x * 2 ^ e) (y * 2 ^ e) c (h .first) q ∙ ap (λ (z : ℕ). z * c) (sym (add-mul x y (2 ^ e)))
-      go (inr f) = absurd (no x y l f)
-
   -- the difference, where x is the larger
-  sub-stands : y < x → Stands 2273 (A - B) c (x - y) e
+  pub sub-stands : y < x → Stands 2273 (A - B) c (x - y) e
   sub-stands l =
       record {
         size = x * 2 ^ e - h .second .size;
@@ -128,6 +118,20 @@ module _ {A B c x y e : ℕ} (h : Addends A B c x y e) where
         cut = jam-is (pow-pos e) (jam-sub x (h .even) l jam-second);
       }
 
+  pub sub-order : y < x → B < A
+  sub-order l = less-same B A (2 ^ 2273) (h .second .size) (x * 2 ^ e) c (h .second .den-pos) (h .second .same) (h .first) (jam-lt x (pow-pos e) (h .even) l jam-second)
+
+module _ {A B c x y e : ℕ} (h : Addends A B c x y e) where
+  add-exact : x + y < 2 ^ 64 → (A + B) * 2 ^ 2273 ≡ (x + y) * 2 ^ e * c
+  add-exact l = go (h .far)
+    where
+      no : (x y : ℕ) → x + y < 2 ^ 64 → y + 2 ^ 64 ≤ x → ⊥
+      no x y a b = omega arith
+
+      go : (B * 2 ^ 2273 ≡ y * 2 ^ e * c) ⊎ (y + 2 ^ 64 ≤ x) → (A + B) * 2 ^ 2273 ≡ (x + y) * 2 ^ e * c
+      go (inl q) = add-same A B (2 ^ 2273) (x * 2 ^ e) (y * 2 ^ e) c (h .both .first) q ∙ ap (λ (z : ℕ). z * c) (sym (add-mul x y (2 ^ e)))
+      go (inr f) = absurd (no x y l f)
+
   sub-exact : x - y < 2 ^ 64 → (A - B) * 2 ^ 2273 ≡ (x - y) * 2 ^ e * c
   sub-exact l = go (h .far)
     where
@@ -135,11 +139,8 @@ module _ {A B c x y e : ℕ} (h : Addends A B c x y e) where
       no x y a b = omega arith
 
       go : (B * 2 ^ 2273 ≡ y * 2 ^ e * c) ⊎ (y + 2 ^ 64 ≤ x) → (A - B) * 2 ^ 2273 ≡ (x - y) * 2 ^ e * c
-      go (inl q) = sub-same A B (2 ^ 2273) (x * 2 ^ e) (y * 2 ^ e) c (h .first) q ∙ ap (λ (z : ℕ). z * c) (sym (sub-mul x y (2 ^ e)))
+      go (inl q) = sub-same A B (2 ^ 2273) (x * 2 ^ e) (y * 2 ^ e) c (h .both .first) q ∙ ap (λ (z : ℕ). z * c) (sym (sub-mul x y (2 ^ e)))
       go (inr f) = absurd (no x y l f)
-
-  sub-order : y < x → B < A
-  sub-order l = less-same B A (2 ^ 2273) (h .second .size) (x * 2 ^ e) c (h .second .den-pos) (h .second .same) (h .first) (jam-lt x (pow-pos e) (h .even) l jam-second)
 
   -- where x is not the larger, all is exact
   exact : x ≤ y → B * 2 ^ 2273 ≡ y * 2 ^ e * c
@@ -149,25 +150,25 @@ module _ {A B c x y e : ℕ} (h : Addends A B c x y e) where
       no x y a b = omega arith
 
   over-exact : x < y → (B - A) * 2 ^ 2273 ≡ (y - x) * 2 ^ e * c
-  over-exact l = sub-same B A (2 ^ 2273) (y * 2 ^ e) (x * 2 ^ e) c (exact (le-of-lt l)) (h .first) ∙ ap (λ (z : ℕ). z * c) (sym (sub-mul y x (2 ^ e)))
+  over-exact l = sub-same B A (2 ^ 2273) (y * 2 ^ e) (x * 2 ^ e) c (exact (le-of-lt l)) (h .both .first) ∙ ap (λ (z : ℕ). z * c) (sym (sub-mul y x (2 ^ e)))
 
   over-order : x < y → A < B
-  over-order l = less-same A B (2 ^ 2273) (x * 2 ^ e) (y * 2 ^ e) c (h .second .den-pos) (h .first) (exact (le-of-lt l)) (mul-lt-mul-of-pos-right l (pow-pos e))
+  over-order l = less-same A B (2 ^ 2273) (x * 2 ^ e) (y * 2 ^ e) c (h .both .second .den-pos) (h .both .first) (exact (le-of-lt l)) (mul-lt-mul-of-pos-right l (pow-pos e))
 
   even-order : x ≡ y → A ≡ B
-  even-order q = eq-of-mul-eq-mul-right (2 ^ 2273) (pow-pos 2273) A B (h .first ∙ ap (λ (z : ℕ). z * 2 ^ e * c) q ∙ sym (exact (le-of-eq q)))
+  even-order q = eq-of-mul-eq-mul-right (2 ^ 2273) (pow-pos 2273) A B (h .both .first ∙ ap (λ (z : ℕ). z * 2 ^ e * c) q ∙ sym (exact (le-of-eq q)))
 
   -- ---- what a rounding of the sum or of a difference answers
 
   module _ (d : Direction) (s t : Bool) (r : ℕ) where
     pub add-answer : s ≡ t → Rounds d s (x + y) e r → r ≡ toBits binary64 (sumTo d s A t B c)
-    add-answer l f = f (A + B) c add-stands add-exact ∙ ap (toBits binary64) (sym (sum-like d s A B c) ∙ ap (λ (u : Bool). sumTo d s A u B c) l)
+    add-answer l f = f (A + B) c (add-stands (h .both)) add-exact ∙ ap (toBits binary64) (sym (sum-like d s A B c) ∙ ap (λ (u : Bool). sumTo d s A u B c) l)
 
     pub sub-answer : (s ≡ t → ⊥) → y < x → Rounds d s (x - y) e r → r ≡ toBits binary64 (sumTo d s A t B c)
-    sub-answer n l f = f (A - B) c (sub-stands l) sub-exact ∙ ap (toBits binary64) (sym (sum-more d s t A B c n (sub-order l)))
+    sub-answer n l f = f (A - B) c (sub-stands (h .both) l) sub-exact ∙ ap (toBits binary64) (sym (sum-more d s t A B c n (sub-order (h .both) l)))
 
     pub over-answer : (s ≡ t → ⊥) → x < y → Rounds d t (y - x) e r → r ≡ toBits binary64 (sumTo d s A t B c)
-    over-answer n l f = f (B - A) c (stands-just (h .second .den-pos) (over-exact l)) (λ u. over-exact l) ∙ ap (toBits binary64) (sym (sum-less d s t A B c n (over-order l)))
+    over-answer n l f = f (B - A) c (stands-just (h .both .second .den-pos) (over-exact l)) (λ u. over-exact l) ∙ ap (toBits binary64) (sym (sum-less d s t A B c n (over-order l)))
 
     pub same-answer : (s ≡ t → ⊥) → x ≡ y → r ≡ signBit (zeroSign d) → r ≡ toBits binary64 (sumTo d s A t B c)
     same-answer n l q = q ∙ zero-bits (zeroSign d) ∙ ap (toBits binary64) (sym (sum-same d s t A B c n (even-order l)))
@@ -259,10 +260,8 @@ divides y t h e =
 pub aligned : (A B c x xe y ye z : ℕ) → Ready x → Ready y → ye ≤ xe → z ≡ jammed y (2 ^ (xe - ye)) → 0 < c → A * 2 ^ 2273 ≡ x * 2 ^ xe * c → B * 2 ^ 2273 ≡ y * 2 ^ ye * c → Addends A B c x z xe
 aligned A B c x xe y ye z X Y l ez C p q =
     record {
-      first = p;
-      second = record { size = y * 2 ^ ye; den-pos = C; same = q; cut = jam-is (pow-pos xe) (subst (λ (u : ℕ). Jam (y * 2 ^ ye) u z) unit (jam-scale (2 ^ ye) (pow-pos ye) j)) };
+      both = record { first = p; second = record { size = y * 2 ^ ye; den-pos = C; same = q; cut = jam-is (pow-pos xe) (subst (λ (u : ℕ). Jam (y * 2 ^ ye) u z) unit (jam-scale (2 ^ ye) (pow-pos ye) j)) }; even = evenly x (X .tail) };
       far = ⊎-elim (λ h. inl (q ∙ ap (λ (v : ℕ). v * 2 ^ ye * c) (jam-exact (y / 2 ^ 21 * 2 ^ (21 - t)) (divides y t h (Y .tail)) j) ∙ ap (λ (v : ℕ). v * c) (mul-assoc z (2 ^ t) (2 ^ ye) ∙ ap (λ (v : ℕ). z * v) unit))) (λ h. inr (gap h)) (le-or-gt t 21);
-      even = evenly x (X .tail);
     }
   where
     t : ℕ

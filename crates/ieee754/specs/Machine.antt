@@ -55,12 +55,16 @@ productSize a b = a .m * 1024 * (b .m * 2048) * 2 ^ (a .e + b .e)
 abbrev pub addendSize : Parts → ℕ
 addendSize c = c .m * 1024 * 2 ^ 64 * 2 ^ (c .e + 1073)
 
--- A / c is x * 2 ^ e, and y stands for B / c. Where y does not stand for itself, x is much the larger.
-pub record Addends (A B c x y e : ℕ) : Type 0 where
+-- A / c is x * 2 ^ e, and y stands for B / c
+pub record Summands (A B c x y e : ℕ) : Type 0 where
   pub first : A * 2 ^ 2273 ≡ x * 2 ^ e * c
   pub second : Stands 2273 B c y e
-  pub far : (B * 2 ^ 2273 ≡ y * 2 ^ e * c) ⊎ (y + 2 ^ 64 ≤ x)
   pub even : x % 2 ≡ 0
+
+-- where y does not stand for itself, x is much the larger
+pub record Addends (A B c x y e : ℕ) : Type 0 where
+  pub both : Summands A B c x y e
+  pub far : (B * 2 ^ 2273 ≡ y * 2 ^ e * c) ⊎ (y + 2 ^ 64 ≤ x)
 
 -- r is the pattern of what w stands for, rounded, where 0 is an exact zero sum of unlike signs
 abbrev pub RoundsSum : Direction → Bool → ℕ → ℕ → ℕ → Type 0

@@ -1,16 +1,22 @@
 -- The leading digits of a number, shifted to the top of a word, and what they stand for. Assumes nothing.
 use mathlib.Core.Path.{_≡_, sym, ap, ap₂, _∙_, subst}
 use Prim.Native.Nat.{ℕ, suc, _+_, _-_, _*_, _/_, _%_, _^_, _≤_, _<_}
-use native.Mathlib.Nat.{le-trans, le-of-eq, lt-of-lt-of-le, lt-of-le-of-lt, lt-of-mul-lt-mul-right, le-of-mul-le-mul-right, mod-eq-of-lt, mul-comm, mul-assoc, mul-right-comm, add-comm, le-add-right, mul-le-mul-right, mul-lt-mul-of-pos-right, zero-mul, add-mul-div-right, add-mul-mod-self-right, not-le-of-lt}
+use native.Mathlib.Nat.{le-trans, le-of-eq, lt-of-lt-of-le, lt-of-le-of-lt, lt-of-mul-lt-mul-right, le-of-mul-le-mul-right, mod-eq-of-lt, mul-comm, mul-assoc, mul-right-comm, add-comm, le-add-right, mul-le-mul-left, mul-le-mul-right, mul-lt-mul-of-pos-right, zero-mul, add-mul-div-right, add-mul-mod-self-right, not-le-of-lt}
 use native.Mathlib.Omega.{arith}
+use mathlib.Core.Bool.{Bool}
 use mathlib.Core.Logic.{⊎-elim}
 use lib.Arith.{digits-lt}
 use lib.Pow.{pow-add, pow-pos, pow-mono, shr-lt, shr-shr}
 use lib.Count.{leadingZeros, leading-top}
+use lib.Ieee.{binary64, toBits}
 use Rattle.wide.specs.Words.{sticky, jammed}
 use Rattle.wide.proofs.Nat.{le-or-gt, mul-zero, shl}
 use Rattle.wide.proofs.Sticky.{Jam, just, sticky-rest, jam-of, jam-is, jam-jam, jam-ge, jam-scale, even-pow}
-use Rattle.rounding.specs.Machine.{Stands}
+use Rattle.rounding.specs.declared.Direction.{Direction}
+use Rattle.rounding.specs.Rounding.{roundTo}
+use Rattle.rounding.specs.Machine.{packed, normalBits, Stands}
+use Rattle.rounding.proofs.Place.{whole-same}
+use Rattle.rounding.proofs.Rounding.{bits-leading, bits-normal}
 
 -- w, shifted up by its leading zeros, fills a word
 pub record Leads (w z : ℕ) : Type 0 where
@@ -156,3 +162,46 @@ stands-word num den w e z Z D h =
       where
         sum : (z e : ℕ) → z ≤ 63 → e + 64 ≡ z + (e + 64 - z)
         sum z e h = omega arith
+
+-- one word: it stands for itself, or it has at least 62 digits, of which 9 or more are dropped
+module _ (d : Direction) (s : Bool) {num den w e : ℕ} (z : ℕ) (Z : Leads w z) (h : Stands 2273 num den w e) where
+  finer : Stands 2337 num den w (e + 64)
+  finer =
+      record {
+        size = h .size * 2 ^ 64;
+        den-pos = h .den-pos;
+        same = regroup num (2 ^ 2273) (2 ^ 64) (h .size) den (h .same);
+        cut = jam-is (pow-pos (e + 64)) (subst (λ (x : ℕ). Jam (h .size * 2 ^ 64) x w) (sym (pow-add 2 e 64)) (jam-scale (2 ^ 64) (pow-pos 64) (jam-of (pow-pos e) (h .cut))));
+      }
+
+  long : 1251 ≤ e → z ≤ 2 → toBits binary64 (roundTo d binary64 s num den) ≡ packed d s (normalBits d s (w * 2 ^ z) (e + 64 - z))
+  long E l =
+      bits-leading d s finer (11 - z) (e + 64 - z - 1252) (few z l) (le-of-mul-le-mul-right (le-trans (le-of-eq (split 52 z l)) (Z .low)) (pow-pos z)) (lt-of-mul-lt-mul-right (2 ^ z) (lt-of-lt-of-le (Z .high) (le-of-eq (sym (split 53 z l))))) (place e z E l)
+      ∙ ap (λ (x : ℕ). packed d s ((e + 64 - z - 1252) * 0x10000000000000 + x)) (whole-same d s w (2 ^ (11 - z)) (w * 2 ^ z) (2 ^ 11) (pow-pos (11 - z)) (pow-pos 11) (ap (λ (x : ℕ). w * x) (ap (λ (x : ℕ). 2 ^ x) (back z l) ∙ pow-add 2 z (11 - z)) ∙ sym (mul-assoc w (2 ^ z) (2 ^ (11 - z)))))
+    where
+      few : (z : ℕ) → z ≤ 2 → 2 ≤ 11 - z
+      few z l = omega arith
+
+      back : (z : ℕ) → z ≤ 2 → 11 ≡ z + (11 - z)
+      back z l = omega arith
+
+      place : (e z : ℕ) → 1251 ≤ e → z ≤ 2 → 11 - z + (e + 64) ≡ 1263 + (e + 64 - z - 1252)
+      place e z E l = omega arith
+
+      split : (n z : ℕ) → z ≤ 2 → 2 ^ (n + (11 - z)) * 2 ^ z ≡ 2 ^ (n + 11)
+      split n z l = sym (pow-add 2 (n + (11 - z)) z) ∙ ap (λ (x : ℕ). 2 ^ x) (all n z l)
+        where
+          all : (n z : ℕ) → z ≤ 2 → n + (11 - z) + z ≡ n + 11
+          all n z l = omega arith
+
+  pub bits-word : (w < 2 ^ 61 → num * 2 ^ 2273 ≡ w * 2 ^ e * den) → 1251 ≤ e → toBits binary64 (roundTo d binary64 s num den) ≡ packed d s (normalBits d s (w * 2 ^ z) (e + 64 - z))
+  bits-word x E = ⊎-elim
+      (λ (l : z ≤ 2). long E l)
+      (λ (l : 2 < z). bits-normal d s (stands-word num den w e z (Z .few) (h .den-pos) (x (short l))) (Z .low) (Z .high) (normal e z E (Z .few)))
+      (le-or-gt z 2)
+    where
+      normal : (e z : ℕ) → 1251 ≤ e → z ≤ 63 → 1252 ≤ e + 64 - z
+      normal e z E l = omega arith
+
+      short : 2 < z → w < 2 ^ 61
+      short l = lt-of-mul-lt-mul-right (2 ^ 3) (lt-of-le-of-lt (mul-le-mul-left w (pow-mono {i = 3} {j = z} l)) (Z .high))

@@ -16,7 +16,7 @@ use Rattle.wide.proofs.Sticky.{Jam, jam-of, jam-is, jam-jam, jam-pos, jam-lt}
 use Rattle.rounding.specs.declared.Direction.{Direction}
 use Rattle.rounding.specs.declared.Direction.the-variants.{Nearest}
 use Rattle.rounding.specs.Rounding.{whole, bounded, roundTo}
-use Rattle.rounding.specs.Machine.{packed, Stands}
+use Rattle.rounding.specs.Machine.{packed, normalBits, Stands}
 use Rattle.rounding.proofs.Place.{Place, under, place, Sits, sits, sits-div, sits-same, jam-sits, wholeAt, whole-at, whole-ge, whole-le}
 use Rattle.rounding.proofs.Pattern.{size-exact, units-bits}
 
@@ -109,10 +109,14 @@ module _ (d : Direction) (s : Bool) {num den m e : ℕ} (h : Stands 2337 num den
   kept-whole : (j : ℕ) → wholeAt d s (m / 2 ^ j) (place (m % 2 ^ j) (2 ^ j)) ≡ whole d s m (2 ^ j)
   kept-whole j = sym (whole-at d s (pow-pos j) (sits m (2 ^ j) (pow-pos j)))
 
-  pub bits-normal : (k : ℕ) → 2 ^ 63 ≤ m → m < 2 ^ 64 → e ≡ 1252 + k → toBits binary64 (roundTo d binary64 s num den) ≡ packed d s (k * 0x10000000000000 + whole d s m (2 ^ 11))
-  bits-normal k lo hi E =
-      bits-at d s num den k (m / 2 ^ 11) (place (m % 2 ^ 11) (2 ^ 11)) (h .den-pos) (omega arith) (inr (omega arith)) (kept 11 k (lit≤ tt) (omega arith))
-      ∙ ap (λ (x : ℕ). packed d s (k * 0x10000000000000 + x)) (kept-whole 11)
+  -- m has 53 + j digits, of which j are dropped
+  pub bits-leading : (j k : ℕ) → 2 ≤ j → 2 ^ (52 + j) ≤ m → m < 2 ^ (53 + j) → j + e ≡ 1263 + k → toBits binary64 (roundTo d binary64 s num den) ≡ packed d s (k * 0x10000000000000 + whole d s m (2 ^ j))
+  bits-leading j k J lo hi E =
+      bits-at d s num den k (m / 2 ^ j) (place (m % 2 ^ j) (2 ^ j)) (h .den-pos) (div-lt-iff-lt-mul (pow-pos j) .1 (subst (λ (x : ℕ). m < x) (pow-add 2 53 j) hi)) (inr (le-div-iff-mul-le (pow-pos j) .1 (subst (λ (x : ℕ). x ≤ m) (pow-add 2 52 j) lo))) (kept j k J E)
+      ∙ ap (λ (x : ℕ). packed d s (k * 0x10000000000000 + x)) (kept-whole j)
+
+  pub bits-normal : 2 ^ 63 ≤ m → m < 2 ^ 64 → 1252 ≤ e → toBits binary64 (roundTo d binary64 s num den) ≡ packed d s (normalBits d s m e)
+  bits-normal lo hi E = bits-leading 11 (e - 1252) (lit≤ tt) lo hi (omega arith)
 
   pub bits-subnormal : (j : ℕ) → m < 2 ^ 63 → j + e ≡ 1263 → 11 ≤ j → toBits binary64 (roundTo d binary64 s num den) ≡ packed d s (whole d s m (2 ^ j))
   bits-subnormal j hi E J =

@@ -8,7 +8,7 @@ use lib.Ieee.{toBits, binary64}
 use Rattle.wide.specs.Words.{jammed}
 use Rattle.rounding.specs.declared.Direction.{Direction}
 use Rattle.rounding.specs.declared.Direction.the-variants.{Nearest, TowardZero, Up, Down}
-use Rattle.rounding.specs.Rounding.{roundTo}
+use Rattle.rounding.specs.Rounding.{whole, roundTo}
 
 -- the pattern of a sign alone
 abbrev pub signBit : Bool → ℕ
@@ -42,6 +42,10 @@ packed d s b = signBit s + boundedBits d s b
 abbrev pub increment : Direction → Bool → ℕ → ℕ → ℕ
 increment d s odd k = cond (toNearest d) (2 ^ (k - 1) - 1 + odd) (cond (roundsAway d s) (2 ^ k - 1) 0)
 
+-- the pattern, without a sign, of m * 2 ^ e in units of 2 ^ -2337, where m has 64 digits and the result is at least the least normal number
+abbrev pub normalBits : Direction → Bool → ℕ → ℕ → ℕ
+normalBits d s m e = (e - 1252) * 0x10000000000000 + whole d s m (2 ^ 11)
+
 -- num / den, in units of 2 ^ -b, is a whole number, and m is what is left of it when e digits are cut off, with a sticky bit
 pub record Stands (b num den m e : ℕ) : Type 0 where
   pub size : ℕ
@@ -52,3 +56,7 @@ pub record Stands (b num den m e : ℕ) : Type 0 where
 -- r is the pattern of what w stands for, in units of 2 ^ -2273, rounded. A w of one word has to stand for itself.
 abbrev pub Rounds : Direction → Bool → ℕ → ℕ → ℕ → Type 0
 Rounds d s w e r = (num den : ℕ) → Stands 2273 num den w e → (w < 2 ^ 64 → num * 2 ^ 2273 ≡ w * 2 ^ e * den) → r ≡ toBits binary64 (roundTo d binary64 s num den)
+
+-- the same for a w of one word, which has to stand for itself only where it has fewer than 62 digits
+abbrev pub RoundsWord : Direction → Bool → ℕ → ℕ → ℕ → Type 0
+RoundsWord d s w e r = (num den : ℕ) → Stands 2273 num den w e → (w < 2 ^ 61 → num * 2 ^ 2273 ≡ w * 2 ^ e * den) → r ≡ toBits binary64 (roundTo d binary64 s num den)

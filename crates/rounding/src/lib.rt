@@ -7,7 +7,7 @@ ghost use lib.Count.{leadingZeros};
 ghost use lib.Ieee.{toBits, binary64};
 ghost use Rattle.wide.specs.Words.{value, jammed};
 ghost use Rattle.rounding.specs.Rounding.{whole, roundTo};
-ghost use Rattle.rounding.specs.Machine.{signBit, overflowBits, boundedBits, packed, toNearest, roundsAway, increment, Stands, Rounds};
+ghost use Rattle.rounding.specs.Machine.{signBit, overflowBits, boundedBits, packed, toNearest, roundsAway, increment, normalBits, Stands, Rounds, RoundsWord};
 use wide::Wide;
 
 // The rounding-direction attributes of 4.3.
@@ -114,7 +114,7 @@ pub fn round_shift(dir: Direction, neg: bool, m: u64, k: u64) -> u64
 // normal number, so that a carry moves on into the field by itself.
 fn normal_bits(dir: Direction, neg: bool, m: u64, e: u64) -> u64
     requires { ⌜ (2 ^ 63 ≤ m) × (1252 ≤ e) × (e ≤ 4322) ⌝ }
-    ensures { λ r. ⌜ (r ≤ (e - 1250) * 0x10000000000000) × ((num den : ℕ) → Stands 2337 num den m e → toBits binary64 (roundTo dir binary64 neg num den) ≡ packed dir neg r) ⌝ }
+    ensures { λ r. ⌜ r ≡ normalBits dir neg m e ⌝ }
 {
     (e - 1252) * LEADING + round_shift(dir, neg, m, 11)
 }
@@ -144,10 +144,10 @@ pub fn round_pack(dir: Direction, neg: bool, m: u64, e: u64) -> u64
     pack(dir, neg, round_bits(dir, neg, m, e))
 }
 
-// The same, where the result is surely a normal number.
+// The pattern of a result that is surely a normal number.
 fn pack_normal(dir: Direction, neg: bool, m: u64, e: u64) -> u64
     requires { ⌜ (2 ^ 63 ≤ m) × (1252 ≤ e) × (e ≤ 3296) ⌝ }
-    ensures { λ r. ⌜ ((num den : ℕ) → Stands 2337 num den m e → r ≡ toBits binary64 (roundTo dir binary64 neg num den)) ⌝ }
+    ensures { λ r. ⌜ r ≡ packed dir neg (normalBits dir neg m e) ⌝ }
 {
     sign_bit(neg) + normal_bits(dir, neg, m, e)
 }
@@ -189,10 +189,10 @@ pub fn round_normal(dir: Direction, neg: bool, w: Wide, e: u64) -> u64
     pack_normal(dir, neg, leading_digits(w), e + 128 - z)
 }
 
-// The same for one word.
+// The same for one word. It may end in a sticky bit where it has 62 digits or more.
 pub fn round_word(dir: Direction, neg: bool, w: u64, e: u64) -> u64
     requires { ⌜ (0 < w) × (1251 ≤ e) × (e ≤ 3232) ⌝ }
-    ensures { λ r. ⌜ Rounds dir neg w e r ⌝ }
+    ensures { λ r. ⌜ RoundsWord dir neg w e r ⌝ }
 {
     let z = u64::leading_zeros(w) as u64;
     pack_normal(dir, neg, w << z, e + 64 - z)

@@ -1,6 +1,6 @@
--- Laws on plain numbers that the proofs of the functions cite, by subject. Callers cite `Nat` and `Sticky`.
+-- Laws on plain numbers that the proofs of the functions cite, by subject. Callers cite `Nat`, `Sticky` and `Shifts`.
 pub mod Nat
 pub mod Sticky
 mod Product
 mod Sums
-mod Shifts
+pub mod Shifts

@@ -98,7 +98,7 @@ module _ (h l t : ℕ) (L : l < 2 ^ 64) (T : t ≤ 63) where
 -- ---- any number of bits
 
 -- a shift by k of at least 64, in two steps
-two-steps : (n m r k : ℕ) → 64 ≤ k → m ≡ jammed n (2 ^ 64) → r ≡ jammed m (2 ^ (k - 64)) → r ≡ jammed n (2 ^ k)
+pub two-steps : (n m r k : ℕ) → 64 ≤ k → m ≡ jammed n (2 ^ 64) → r ≡ jammed m (2 ^ (k - 64)) → r ≡ jammed n (2 ^ k)
 two-steps n m r k h e f = go (le-or-gt k 64)
   where
     back : (k : ℕ) → 64 ≤ k → k - 64 + 64 ≡ k
@@ -121,7 +121,7 @@ two-steps n m r k h e f = go (le-or-gt k 64)
         (jam-jam (pow-pos 64) (even-pow (k - 64) (more k l)) (jam-of (pow-pos 64) e) (jam-of (pow-pos (k - 64)) f)))
 
 -- past 127 bits the result stays what it is at 127: 0 for 0, else the sticky bit
-far : (n t r : ℕ) → n < 2 ^ 128 → 127 ≤ t → r ≡ jammed n (2 ^ 127) → r ≡ jammed n (2 ^ t)
+pub far : (n t r : ℕ) → n < 2 ^ 128 → 127 ≤ t → r ≡ jammed n (2 ^ 127) → r ≡ jammed n (2 ^ t)
 far n t r N T e = jam-is (pow-pos t) (go n (2 ^ 127) (2 ^ t) r N (pow-mono {i = 127} {j = t} T) (jam-of (pow-pos 127) e))
   where
     go : (n u v r : ℕ) → n < u * 2 → u ≤ v → Jam n u r → Jam n v r

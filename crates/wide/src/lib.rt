@@ -141,7 +141,7 @@ fn shift_bits(x: Wide, t: u64) -> Wide
 }
 
 // The smaller of two numbers.
-fn least(a: u64, b: u64) -> u64
+pub fn least(a: u64, b: u64) -> u64
     ensures { λ r. ⌜ r ≡ cond (ltb a b) a b ⌝ }
 {
     if a < b { a } else { b }

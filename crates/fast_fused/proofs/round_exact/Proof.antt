@@ -1,7 +1,8 @@
 -- `fast_fused::round_exact` meets its contract. Assumes nothing.
 use mathlib.Core.Path.{_≡_, refl, sym, ap, _∙_, subst}
 use Prim.Native.Nat.{ℕ, _+_, _*_, _^_, _<_}
-use native.Mathlib.Nat.{zero-add}
+use native.Mathlib.Nat.{lt-of-lt-of-le, zero-add}
+use lib.Dec.{lit≤}
 use borrow.Author.Needs.{needs}
 use native.Mathlib.Omega.{arith}
 use Rattle.wide.specs.Words.{value}
@@ -35,7 +36,7 @@ returns-2 c =
     let s = t .before in
     let a = s .args in
     let e : a .w .lo ≡ value (a .w) = sym (ap (λ (x : ℕ). x * 2 ^ 64 + a .w .lo) (t .if1 .taken) ∙ zero-add (a .w .lo)) in
-    (λ z. absurd (c .before .if2 .left (e ∙ z)), λ h. subst (λ (n : ℕ). Rounds Nearest (a .neg) n (a .e) (c .round-word .result)) e (c .round-word .ensures))
+    (λ z. absurd (c .before .if2 .left (e ∙ z)), λ h. subst (λ (n : ℕ). Rounds Nearest (a .neg) n (a .e) (c .round-word .result)) e (λ num den g x. c .round-word .ensures num den g (λ l. x (lt-of-lt-of-le l (lit≤ tt)))))
 
 returns-3 : tie.Need-returns-3
 returns-3 c = let w = c .before .before .args .w in (λ e. absurd (high (w .hi) (w .lo) (c .before .if1 .left) e), λ h. c .round-normal .ensures)

@@ -6,7 +6,7 @@ use native.Mathlib.Omega.{arith}
 use Rattle.wide.specs.Words.{sticky}
 use Rattle.wide.proofs.Sticky.{Jam, jam-of, jam-below, jam-ge}
 use Rattle.rounding.specs.Machine.{packed}
-use Rattle.rounding.proofs.Rounding.{bits-subnormal, bits-tiny, stands-half}
+use Rattle.rounding.proofs.Rounding.{bits-normal, bits-subnormal, bits-tiny, stands-half}
 use Rattle.rounding.proofs.round_bits.Statement.{statement}
 use Rattle.rounding.proofs.round_bits.Tie as tie
 
@@ -18,7 +18,10 @@ normal-bits-requires : tie.Need-normal-bits-requires
 normal-bits-requires c κs = search needs
 
 returns : tie.Need-returns
-returns c = c .normal-bits .ensures .1
+returns c =
+    λ num den h.
+    let a = c .before .before .args in
+    bits-normal (a .dir) (a .neg) h (omega arith) (omega arith) (omega arith) ∙ ap (packed (a .dir) (a .neg)) (sym (c .normal-bits .ensures))
 
 set-sticky-requires : tie.Need-set-sticky-requires
 set-sticky-requires c κs = search needs

@@ -1,8 +1,10 @@
 -- `rounding::round_normal` meets its contract. Assumes nothing.
+use mathlib.Core.Path.{sym, _∙_}
 use Prim.Native.Nat.{ℕ, _+_, _-_, _≤_}
 use lib.Count.{leadingZeros}
 use borrow.Author.Needs.{needs}
 use native.Mathlib.Omega.{arith}
+use Rattle.rounding.proofs.Rounding.{bits-normal}
 use Rattle.rounding.proofs.Leading.{Leads, leads, stands-top}
 use Rattle.rounding.proofs.round_normal.Statement.{statement}
 use Rattle.rounding.proofs.round_normal.Tie as tie
@@ -36,7 +38,9 @@ returns c =
     λ num den h x.
     let d = c .before in
     let s = d .before in
-    c .pack-normal .ensures num den (stands-top (d .leading-digits .result) (leadingZeros 64 (s .args .w .hi)) (high-word s .few) h (d .leading-digits .ensures .1))
+    let a = s .args in
+    let m = d .leading-digits in
+    c .pack-normal .ensures ∙ sym (bits-normal (a .dir) (a .neg) (stands-top (m .result) (leadingZeros 64 (a .w .hi)) (high-word s .few) h (m .ensures .1)) (m .ensures .0) (m .ok) (pack-normal-requires d (c .pack-normal .lifetimes) .1))
 
 pub round-normal-spec : {M : Type 1} → statement M
 round-normal-spec = tie.close (tie.spec cast-z leading-digits-requires add-pack-normal sub-pack-normal pack-normal-requires returns)

@@ -1,12 +1,12 @@
 -- `rounding::round_word` meets its contract. Assumes nothing.
-use mathlib.Core.Path.{sym, subst}
+use mathlib.Core.Path.{sym, ap, _∙_, subst}
 use Prim.Native.Nat.{ℕ, _+_, _-_, _^_, _≤_}
 use native.Mathlib.Nat.{mod-eq-of-lt}
 use lib.Count.{leadingZeros}
 use borrow.Author.Needs.{needs}
 use native.Mathlib.Omega.{arith}
-use Rattle.rounding.specs.Machine.{Stands}
-use Rattle.rounding.proofs.Leading.{Leads, leads, stands-word}
+use Rattle.rounding.specs.Machine.{packed, normalBits}
+use Rattle.rounding.proofs.Leading.{Leads, leads, bits-word}
 use Rattle.rounding.proofs.round_word.Statement.{statement}
 use Rattle.rounding.proofs.round_word.Tie as tie
 
@@ -40,8 +40,7 @@ returns c =
     let s = c .before in
     let a = s .args in
     let z = leadingZeros 64 (a .w) in
-    let l = word s in
-    c .pack-normal .ensures num den (subst (λ (y : ℕ). Stands 2337 num den y (a .e + 64 - z)) (sym (mod-eq-of-lt (l .high))) (stands-word num den (a .w) (a .e) z (l .few) (h .den-pos) (x (s .good .1 .1 .0 .1))))
+    c .pack-normal .ensures ∙ ap (λ (y : ℕ). packed (a .dir) (a .neg) (normalBits (a .dir) (a .neg) y (a .e + 64 - z))) (mod-eq-of-lt (word s .high)) ∙ sym (bits-word (a .dir) (a .neg) z (word s) h x (s .pre .1))
 
 pub round-word-spec : {M : Type 1} → statement M
 round-word-spec = tie.close (tie.spec cast-z shl-pack-normal add-pack-normal sub-pack-normal pack-normal-requires returns)
