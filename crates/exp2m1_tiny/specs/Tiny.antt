@@ -18,6 +18,16 @@ hornerStep x p ch cl =
     let t = fastTwoSum ch (q .hi) in
     pair (t .hi) (add binary64 (q .lo) (add binary64 (t .lo) cl))
 
+-- the sum of the terms of degree 4 or higher, over x ^ 4, in double precision
+unfoldable pub degree4 : Float → Float
+degree4 x =
+    let x2 = mul binary64 x x in
+    let x4 = mul binary64 x2 x2 in
+    let c8 = fma (P 11) x2 (fma (P 10) x (P 9)) in
+    let c6 = fma (P 8) x (P 7) in
+    let c4 = fma (P 6) x (P 5) in
+    fma c8 x4 (fma c6 x2 c4)
+
 -- the fast phase
 unfoldable pub exp2m1FastTiny : Float → Estimate
 exp2m1FastTiny x =

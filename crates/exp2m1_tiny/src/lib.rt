@@ -9,8 +9,11 @@ use double_double::fast_two_sum;
 use double_double::s_mul;
 use exceptions::Found;
 use exceptions::Stretch;
+use math::fma_bits;
+use math::from_bits;
+use math::pattern;
 ghost use mathlib.Core.Path.{_≡_};
-ghost use Rattle.exp2m1_tiny.specs.Tiny.{hornerStep, exp2m1FastTiny, polynomialQ, exp2m1AccurateTiny};
+ghost use Rattle.exp2m1_tiny.specs.Tiny.{degree4, hornerStep, exp2m1FastTiny, polynomialQ, exp2m1AccurateTiny};
 
 // A double-double approximation and the maximal corresponding absolute error.
 pub struct Estimate {
@@ -40,18 +43,7 @@ const P: [f64; 12] = [
 pub fn exp2m1_fast_tiny(x: f64) -> Estimate
     ensures { λ r. ⌜ r ≡ exp2m1FastTiny x ⌝ }
 {
-    // The maximal value of |c4*x^4/exp2m1(x)| over [-0.125,0.125]
-    // is less than 2^-15.109, where c4 is the degree-4 coefficient,
-    // thus we can compute the coefficients of degree 4 or higher
-    // using double precision only.
-    let x2 = x * x;
-    let x4 = x2 * x2;
-    let c8 = math::fma(P[10], x, P[9]); // degree 8
-    let c6 = math::fma(P[8], x, P[7]); // degree 6
-    let c4 = math::fma(P[6], x, P[5]); // degree 4
-    let c8 = math::fma(P[11], x2, c8); // degree 8
-    let c4 = math::fma(c6, x2, c4); // degree 4
-    let c4 = math::fma(c8, x4, c4); // degree 4
+    let c4 = degree_4(x);
     // multiply c4 by x and add P[4]
     let p = a_mul(c4, x);
     let p = fast_sum(P[4], p);
@@ -63,6 +55,27 @@ pub fn exp2m1_fast_tiny(x: f64) -> Estimate
     let pair = s_mul(x, p);
     let err = 1.768181277393352e-20 * pair.hi; // 2^-65.62 < 0x1.4ep-66
     Estimate { pair, err }
+}
+
+// The sum of the terms of degree 4 or higher, over x^4.
+fn degree_4(x: f64) -> f64
+    ensures { λ r. ⌜ r ≡ degree4 x ⌝ }
+{
+    // The maximal value of |c4*x^4/exp2m1(x)| over [-0.125,0.125]
+    // is less than 2^-15.109, where c4 is the degree-4 coefficient,
+    // thus we can compute the coefficients of degree 4 or higher
+    // using double precision only.
+    let x2 = x * x;
+    let x4 = pattern(x2 * x2);
+    let x1 = pattern(x);
+    let x2 = pattern(x2);
+    let c8 = fma_bits(pattern(P[10]), x1, pattern(P[9])); // degree 8
+    let c6 = fma_bits(pattern(P[8]), x1, pattern(P[7])); // degree 6
+    let c4 = fma_bits(pattern(P[6]), x1, pattern(P[5])); // degree 4
+    let c8 = fma_bits(pattern(P[11]), x2, c8); // degree 8
+    let c4 = fma_bits(c6, x2, c4); // degree 4
+    let c4 = fma_bits(c8, x4, c4); // degree 4
+    from_bits(c4)
 }
 
 // Multiply p by x and add ch + cl.

@@ -10,6 +10,9 @@ use double_double::d_mul;
 use double_double::fast_sum;
 use double_double::fast_two_sum;
 use double_double::s_mul;
+use math::fma_bits;
+use math::from_bits;
+use math::pattern;
 ghost use mathlib.Core.Path.{_≡_};
 ghost use Prim.Native.Nat.{_≤_};
 ghost use Rattle.exponential.specs.Exponential.{q1, q2, i1, i2, exponentWord, scaled, timesPower, exp1, exp2};
@@ -128,9 +131,9 @@ fn q_1(z: Pair) -> Pair
     ensures { λ r. ⌜ r ≡ q1 z ⌝ }
 {
     let s = z.hi + z.lo;
-    let q = math::fma(Q_1[4], z.hi, Q_1[3]);
-    let q = math::fma(q, s, Q_1[2]);
-    let p = fast_two_sum(Q_1[1], q * s);
+    let q = fma_bits(pattern(Q_1[4]), pattern(z.hi), pattern(Q_1[3]));
+    let q = fma_bits(q, pattern(s), pattern(Q_1[2]));
+    let p = fast_two_sum(Q_1[1], from_bits(q) * s);
     let p = d_mul(z, p);
     fast_sum(Q_1[0], p)
 }

@@ -54,22 +54,20 @@ pattern-number b h = subst (λ (t : Bool). T (not t)) (sym (nanBits-above binary
 
 -- ---- operations
 
-back : (x : Float) (a : ℕ) → fits binary64 x ≡ true → a ≡ toBits binary64 x → ofBits binary64 a ≡ x
+pub back : (x : Float) (a : ℕ) → fits binary64 x ≡ true → a ≡ toBits binary64 x → ofBits binary64 a ≡ x
 back x a f e = ap (ofBits binary64) e ∙ ofBits-toBits binary64 x (subst (λ (t : Bool). T t) (sym f) tt)
 
 -- a result y that fits, as a pattern w and as the float r
 result : (y r : Float) (w : ℕ) → T (fits binary64 y) → w ≡ toBits binary64 y → r ≡ ofBits binary64 w → r ≡ y
 result y r w f e g = g ∙ ap (ofBits binary64) e ∙ ofBits-toBits binary64 y f
 
-pub fused-floats : (d : Direction) (x y z r : Float) (a b c w : ℕ) → fits binary64 x ≡ true → fits binary64 y ≡ true → fits binary64 z ≡ true
-    → a ≡ toBits binary64 x → b ≡ toBits binary64 y → c ≡ toBits binary64 z → w ≡ fusedBits d a b c → r ≡ ofBits binary64 w → r ≡ fusedMultiplyAdd d x y z
+pub fused-read : (d : Direction) (a b c w : ℕ) → w ≡ fusedBits d a b c → ofBits binary64 w ≡ fusedMultiplyAdd d (ofBits binary64 a) (ofBits binary64 b) (ofBits binary64 c)
 unfolding fusedBits
-fused-floats d x y z r a b c w fx fy fz ea eb ec ew er =
+fused-read d a b c w e =
     let u = ofBits binary64 a in
     let v = ofBits binary64 b in
     let t = ofBits binary64 c in
-    result (fusedMultiplyAdd d u v t) r w (fused-fits d u v t) ew er
-    ∙ ap₂ (λ (p : Float → Float) (q : Float). p q) (ap₂ (λ (p q : Float). fusedMultiplyAdd d p q) (back x a fx ea) (back y b fy eb)) (back z c fz ec)
+    result (fusedMultiplyAdd d u v t) (ofBits binary64 w) w (fused-fits d u v t) e refl
 
 pub round-floats : (x r : Float) (a w : ℕ) → fits binary64 x ≡ true → a ≡ toBits binary64 x → w ≡ roundBits a → r ≡ ofBits binary64 w → r ≡ roundToIntegral Nearest x
 unfolding roundBits

@@ -26,11 +26,25 @@ pub fn from_bits(b: u64) -> f64
     }
 }
 
+// The pattern that is read as x.
+pub fn pattern(x: f64) -> u64
+    ensures { λ r. ⌜ ofBits binary64 r ≡ x ⌝ }
+{
+    to_bits(x)
+}
+
 // x * y + z, rounded once to nearest.
 pub fn fma(x: f64, y: f64, z: f64) -> f64
     ensures { λ r. ⌜ r ≡ fusedMultiplyAdd Nearest x y z ⌝ }
 {
-    from_bits(fast_fused::fused(to_bits(x), to_bits(y), to_bits(z)))
+    from_bits(fma_bits(pattern(x), pattern(y), pattern(z)))
+}
+
+// fma on patterns: a chain of them converts nothing between its steps.
+pub fn fma_bits(x: u64, y: u64, z: u64) -> u64
+    ensures { λ r. ⌜ ofBits binary64 r ≡ fusedMultiplyAdd Nearest (ofBits binary64 x) (ofBits binary64 y) (ofBits binary64 z) ⌝ }
+{
+    fast_fused::fused(x, y, z)
 }
 
 // The nearest whole number, a tie to the even one.

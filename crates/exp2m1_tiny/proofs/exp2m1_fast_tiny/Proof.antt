@@ -2,28 +2,23 @@
 use mathlib.Core.Path.{_≡_}
 use lib.Ieee.{Float, binary64, mul}
 use Rattle.double_double.specs.declared.Pair.{Pair}
-use Rattle.double_double.specs.Pairs.{bits, fma, fastSum, aMul, sMul}
+use Rattle.double_double.specs.Pairs.{bits, fastSum, aMul, sMul}
 use Rattle.exp2m1_tiny.specs.Coefficients.{P}
-use Rattle.exp2m1_tiny.specs.Tiny.{estimate, hornerStep, exp2m1FastTiny}
+use Rattle.exp2m1_tiny.specs.Tiny.{estimate, degree4, hornerStep, exp2m1FastTiny}
 use borrow.Author.Needs.{needs}
 use Rattle.exp2m1_tiny.proofs.exp2m1_fast_tiny.Statement.{statement}
 use Rattle.exp2m1_tiny.proofs.exp2m1_fast_tiny.Tie as tie
 
-follows : (x : Float) {c8 c6 c4 d8 d4 e4 : Float} {a p3 p2 p1 p : Pair}
-    → c8 ≡ fma (P 10) x (P 9)
-    → c6 ≡ fma (P 8) x (P 7)
-    → c4 ≡ fma (P 6) x (P 5)
-    → d8 ≡ fma (P 11) (mul binary64 x x) c8
-    → d4 ≡ fma c6 (mul binary64 x x) c4
-    → e4 ≡ fma d8 (mul binary64 (mul binary64 x x) (mul binary64 x x)) d4
-    → a ≡ aMul e4 x
+follows : (x : Float) {c4 : Float} {a p3 p2 p1 p : Pair}
+    → c4 ≡ degree4 x
+    → a ≡ aMul c4 x
     → p3 ≡ fastSum (P 4) a
     → p2 ≡ hornerStep x p3 (P 2) (P 3)
     → p1 ≡ hornerStep x p2 (P 0) (P 1)
     → p ≡ sMul x p1
     → estimate p (mul binary64 (bits 0x3bd4e00000000000) (p .hi)) ≡ exp2m1FastTiny x
-unfolding exp2m1FastTiny
-follows x h1 h2 h3 h4 h5 h6 h7 h8 h9 h10 h11 = cc
+unfolding degree4 exp2m1FastTiny
+follows x h1 h2 h3 h4 h5 h6 = cc
 
 returns : tie.Need-returns
 returns c =
@@ -32,30 +27,13 @@ returns c =
     let c3 = c2 .before in
     let c4 = c3 .before in
     let c5 = c4 .before in
-    let c6 = c5 .before in
-    let c7 = c6 .before in
-    let c8 = c7 .before in
-    let c9 = c8 .before in
-    let c10 = c9 .before in
-    follows _ (c10 .before .fma .ensures) (c10 .fma2 .ensures) (c9 .fma3 .ensures) (c8 .fma4 .ensures) (c7 .fma5 .ensures) (c6 .fma6 .ensures) (c5 .a-mul .ensures .0) (c4 .fast-sum .ensures)
+    follows _ (c5 .before .degree-4 .ensures) (c5 .a-mul .ensures .0) (c4 .fast-sum .ensures)
     (c3 .horner-step .ensures) (c2 .horner-step2 .ensures) (c1 .s-mul .ensures)
 
 pub exp2m1-fast-tiny-spec : {M : Type 1} → statement M
 exp2m1-fast-tiny-spec =
     tie.close
     (tie.spec
-    (λ c. search needs)
-    (λ c. search needs)
-    (λ c κs. search needs)
-    (λ c. search needs)
-    (λ c. search needs)
-    (λ c κs. search needs)
-    (λ c. search needs)
-    (λ c. search needs)
-    (λ c κs. search needs)
-    (λ c. search needs)
-    (λ c κs. search needs)
-    (λ c κs. search needs)
     (λ c κs. search needs)
     (λ c κs. search needs)
     (λ c. search needs)
