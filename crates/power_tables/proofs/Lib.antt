@@ -1,0 +1,2 @@
+-- What the accessors of the tables share.
+mod Arms
