@@ -17,10 +17,9 @@ use mir.Syntax.{w64}
 use mir.Val.{ofZ, toZ}
 use mir.ValLaws.{toZ-ofZ}
 use Rattle.rounding.specs.declared.Direction.the-variants.{Nearest}
-use Rattle.rounding.specs.Rounding.{whole}
 use Rattle.ieee754.specs.Operations.{roundToIntegral}
 use Rattle.double_double.specs.Pairs.{bits}
-use Rattle.rounding.proofs.Rounding.{nearest-is-round}
+use Rattle.math.proofs.Shift.{integral}
 use Rattle.exponential.specs.Constants.{LN2H, INVLOG2}
 use Rattle.exponential.specs.Range.{Between, above, below, least, most, deepest, InRange, InLogRange, Index}
 
@@ -79,11 +78,6 @@ wholeOf v = closest (num v) (den v)
 
 mono : (v w : Float) → T (positive v) → T (positive w) → T (le v w) → wholeOf v ≤ wholeOf w
 mono v w p q h = closest-mono (num v) (den v) (num w) (den w) (den-pos v) (den-pos w) (le→cross v w p q h)
-
-integral : (s : Bool) (m : ℕ) (e : ℤ) → roundToIntegral Nearest (fin s m e) ≡ round binary64 s (closest (m * up e) (down e)) 1
-unfolding roundToIntegral
-integral s m e =
-    nearest-is-round binary64 s (whole Nearest s (m * up e) (down e)) 1
 
 -- what the cast of k asks, and the k that it gives
 pub record Casts (k : Float) : Type 0 where

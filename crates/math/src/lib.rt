@@ -47,10 +47,25 @@ pub fn fma_bits(x: u64, y: u64, z: u64) -> u64
     fast_fused::fused(x, y, z)
 }
 
+const SHIFT: f64 = 6755399441055744.0; // 0x1.8p52
+
+const TWO_50: f64 = 1125899906842624.0; // 0x1p50
+
+const MINUS_TWO_50: f64 = -1125899906842624.0;
+
 // The nearest whole number, a tie to the even one.
 pub fn roundeven(x: f64) -> f64
     ensures { λ r. ⌜ r ≡ roundToIntegral Nearest x ⌝ }
 {
+    // For |x| <= 2^50 the sum is rounded to a whole number. A zero would come back without the sign of x.
+    let r = x + SHIFT - SHIFT;
+    if MINUS_TWO_50 <= x {
+        if x <= TWO_50 {
+            if r != 0.0 {
+                return r;
+            }
+        }
+    }
     from_bits(ieee754::round(to_bits(x)))
 }
 
