@@ -1,12 +1,15 @@
-//! The weigher's operations beside the machine's, the Rust exp2m1 and MPFR: test vectors, comparisons and timings (see README.md).
+//! The weigher's operations and program beside the machine's, the Rust exp2m1, MPFR and a service written from document 01 alone: test
+//! vectors and streams, comparisons and timings (see README.md).
 
 mod bench;
 mod case;
 mod cases;
+mod frames;
 mod machine;
 #[cfg(mpfr)]
 mod mpfr;
 mod random;
+mod recorded;
 mod run;
 mod rust;
 mod score;
@@ -20,7 +23,7 @@ use std::io;
 use std::process::ExitCode;
 
 const USAGE: &str = "usage: compare run [MILLIONS] | compare mpfr [THOUSANDS] | compare streams [THOUSANDS] | compare bench
-       compare vectors | compare score-vectors";
+       compare vectors | compare score-vectors | compare stream | compare short-stream | compare answers";
 
 fn main() -> ExitCode {
     let words: Vec<String> = env::args().skip(1).collect();
@@ -38,6 +41,9 @@ fn main() -> ExitCode {
         }
         ["vectors"] => written(vectors::write()),
         ["score-vectors"] => written(vectors::write_scores()),
+        ["stream"] => written(recorded::write_stream()),
+        ["short-stream"] => written(recorded::write_short_stream()),
+        ["answers"] => written(recorded::write_answers()),
         _ => usage(),
     }
 }

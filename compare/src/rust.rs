@@ -1,5 +1,7 @@
 //! The Rust exp2m1, where compare was built with its source.
 
+use std::io;
+
 use crate::machine;
 
 /// exp2m1 over the machine's fma, the weigher's and musl's. There is none where compare was built without the source.
@@ -16,6 +18,14 @@ pub const INSTANCES: &[(&str, fn(f64) -> f64)] = &[
 const TEXT: &str = include_str!("../../target/compare/source/libm/src/math/exp2m1.rs");
 #[cfg(not(exp2m1))]
 const TEXT: &str = "";
+
+/// An error where there is no instance.
+pub fn require() -> io::Result<()> {
+    if INSTANCES.is_empty() {
+        return Err(io::Error::other("the Rust source was not there"));
+    }
+    Ok(())
+}
 
 /// The Rust's answer on patterns, where there is an instance.
 pub fn score(x: u64) -> u64 {

@@ -4,11 +4,8 @@ use std::io::{self, Read, Write};
 use std::process::{ChildStdin, Command, Stdio};
 use std::thread;
 
-use crate::case::Case;
-use crate::cases::FUSED;
 use crate::random::Random;
-use crate::service::{self, FLOAT, LONGEST_BODY};
-use crate::{rust, score};
+use crate::{frames, rust, service};
 
 const PROGRAM: &str = "target/bin/weigher";
 
@@ -116,63 +113,11 @@ fn feed(
 
 /// Frames of every kind and refusal, and sometimes an unfinished one at the end.
 fn stream(random: &mut Random) -> Vec<u8> {
-    let mut bytes: Vec<u8> = (0..FRAMES).flat_map(|_| frame(random)).collect();
+    let mut bytes: Vec<u8> = (0..FRAMES).flat_map(|_| frames::any(random)).collect();
     if random.below(2) == 0 {
-        let last = frame(random);
+        let last = frames::any(random);
         let length = random.below(last.len() as u64) as usize;
         bytes.extend(&last[..length]);
     }
     bytes
-}
-
-fn frame(random: &mut Random) -> Vec<u8> {
-    match random.below(10) {
-        0..4 => body(1, 1, &scores(random)),
-        4..7 => body(1, 2, &triples(random)),
-        7 => body(random.word() as u8, random.below(4) as u8, &scores(random)),
-        8 => {
-            let length = random.pick(&[0, 1, 2, 3, 9, 10, 18, 25, 26, 27, 512]);
-            with_length(length, random)
-        }
-        _ => {
-            let length = LONGEST_BODY as i64 + random.between(-1, 2);
-            let length = random.pick(&[length, length, length, length, 1000, 65_535]);
-            with_length(length as usize, random)
-        }
-    }
-}
-
-fn scores(random: &mut Random) -> Vec<u64> {
-    (0..random.between(1, 64))
-        .map(|_| score::weight(random))
-        .collect()
-}
-
-fn triples(random: &mut Random) -> Vec<u64> {
-    let mut floats = Vec::new();
-    for _ in 0..random.between(1, 21) {
-        if let Case::Fused(a, b, c) = (FUSED.random)(random) {
-            floats.extend([a, b, c]);
-        }
-    }
-    floats
-}
-
-fn body(version: u8, kind: u8, floats: &[u64]) -> Vec<u8> {
-    let length = 2 + floats.len() * FLOAT;
-    let mut frame = (length as u16).to_be_bytes().to_vec();
-    frame.extend([version, kind]);
-    frame.extend(floats.iter().flat_map(|x| x.to_be_bytes()));
-    frame
-}
-
-/// A frame of any bytes that has this length, and often the version and a kind.
-fn with_length(length: usize, random: &mut Random) -> Vec<u8> {
-    let mut frame = (length as u16).to_be_bytes().to_vec();
-    frame.extend((0..length).map(|_| random.word() as u8));
-    if length >= 2 && random.below(4) > 0 {
-        frame[2] = 1;
-        frame[3] = random.between(1, 2) as u8;
-    }
-    frame
 }

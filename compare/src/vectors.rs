@@ -31,9 +31,7 @@ pub fn write() -> io::Result<()> {
 
 /// The scores, by increasing patterns.
 pub fn write_scores() -> io::Result<()> {
-    if rust::INSTANCES.is_empty() {
-        return Err(io::Error::other("the Rust source was not there"));
-    }
+    rust::require()?;
     let mut random = Random::new(4);
     let mut weights = score::edges(1);
     weights.extend((0..WEIGHTS).map(|_| score::weight(&mut random)));

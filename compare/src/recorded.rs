@@ -1,0 +1,35 @@
+//! Writes the streams that the programs replay and splits run, and the answers to a stream.
+
+use std::io::{self, Read, Write};
+
+use crate::random::Random;
+use crate::{frames, rust, service};
+
+/// Random frames of the stream that is replayed.
+const FRAMES: usize = 200;
+
+/// The frames at the bounds and an unfinished one. It is short: splits runs it once for each of its bytes.
+pub fn write_short_stream() -> io::Result<()> {
+    let mut random = Random::new(6);
+    let mut stream = frames::at_bounds(&mut random);
+    stream.extend(frames::unfinished(&mut random));
+    io::stdout().write_all(&stream)
+}
+
+/// The frames at the bounds, the longest one, random ones and an unfinished one.
+pub fn write_stream() -> io::Result<()> {
+    let mut random = Random::new(7);
+    let mut stream = frames::at_bounds(&mut random);
+    stream.extend(frames::longest(&mut random));
+    stream.extend((0..FRAMES).flat_map(|_| frames::any(&mut random)));
+    stream.extend(frames::unfinished(&mut random));
+    io::stdout().write_all(&stream)
+}
+
+/// The answers to the stream on standard input and its end.
+pub fn write_answers() -> io::Result<()> {
+    rust::require()?;
+    let mut stream = Vec::new();
+    io::stdin().read_to_end(&mut stream)?;
+    io::stdout().write_all(&service::answers(&stream))
+}
