@@ -1,0 +1,59 @@
+-- `splits::hand_over` is safe and ends: each take uses some bytes of the piece. Assumes nothing.
+use Prim.Native.Nat.{_≤_, _-_}
+use lib.ListN.{length}
+use borrow.Author.Needs.{needs}
+use Rattle.splits.proofs.hand_over.Statement.{statement}
+use Rattle.splits.proofs.hand_over.Tie as tie
+
+abbrev Inv-loop : tie.InvT-loop
+Inv-loop piece wanted word run₀ at₀ run at = at ≤ length piece
+
+abbrev μ-loop : tie.MeasureT-loop
+μ-loop piece wanted word run₀ at₀ run at = length piece - at
+
+refuses-requires : tie.Need-refuses-requires Inv-loop μ-loop
+refuses-requires c κs = search needs
+
+loop-holds : tie.Need-loop-holds Inv-loop μ-loop
+loop-holds c = search needs
+
+sub-take-next : tie.Need-sub-take-next Inv-loop μ-loop
+sub-take-next c = search needs
+
+part-take-next-start : tie.Need-part-take-next-start Inv-loop μ-loop
+part-take-next-start c = search needs
+
+part-take-next-end : tie.Need-part-take-next-end Inv-loop μ-loop
+part-take-next-end c = search needs
+
+take-next-requires : tie.Need-take-next-requires Inv-loop μ-loop
+take-next-requires c κs = search needs
+
+add-at : tie.Need-add-at Inv-loop μ-loop
+add-at c = search needs
+
+loop-less : tie.Need-loop-less Inv-loop μ-loop
+loop-less c = search needs
+
+loop-again : tie.Need-loop-again Inv-loop μ-loop
+loop-again c = search needs
+
+returns : tie.Need-returns Inv-loop μ-loop
+returns c = search needs
+
+pub hand-over-spec : {M : Type 1} → statement M
+hand-over-spec =
+    tie.close
+    (tie.spec
+    Inv-loop
+    μ-loop
+    refuses-requires
+    loop-holds
+    sub-take-next
+    part-take-next-start
+    part-take-next-end
+    take-next-requires
+    add-at
+    loop-less
+    loop-again
+    returns)

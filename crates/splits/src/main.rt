@@ -1,0 +1,283 @@
+// Cuts the stream of standard input in two at every place, and then at random, and hands the pieces to take one after another, with
+// refused calls in between. A run fails where its answers are not those of the whole stream, handed on at once, and where a refused call
+// gives another number or changes anything. The stream has to end inside a frame. Prints a line for each run that fails, and the counts.
+use libc::STDOUT_FILENO;
+use service::Closed;
+use service::State;
+use service::Taken;
+ghost use Prim.Native.Nat.{_≤_, _<_};
+ghost use lib.ListN.{length};
+ghost use Rattle.io.specs.Counts.{Counts};
+
+// Document 01: "buffer 516 works, 515: 6". The numbers are its own and not the library's, so that those are tested.
+const BUFFER: usize = 516;
+
+const SMALL_BUFFER: usize = 515;
+
+// What an answer buffer holds before a call.
+const FILL: u8 = 165;
+
+// The place of a run that failed: behind all answers, so that nothing matches there.
+const FAILED: usize = usize::MAX;
+
+const RANDOM_RUNS: usize = 300;
+
+const LONGEST_PIECE: usize = 64;
+
+// The service's state, how many bytes of the wanted answers have come, or FAILED, and how many bytes the last take used.
+struct Run {
+    state: State,
+    matched: usize,
+    used: usize,
+}
+
+// ---- what is compared
+
+fn is_filled(bytes: &[u8]) -> bool {
+    let mut i = 0;
+    while i < bytes.len() {
+        if bytes[i] != FILL {
+            return false;
+        }
+        i += 1;
+    }
+    true
+}
+
+// Whether a buffer holds the answer at its front, and behind it what it held before the call.
+fn holds(buffer: &[u8], answer: &[u8]) -> bool {
+    let len = answer.len();
+    if buffer.len() < len {
+        return false;
+    }
+    check::same(&buffer[0..len], answer) && is_filled(&buffer[len..])
+}
+
+// The number in an answer, which is a refusal's or 0, or 0 where there is no answer.
+fn number_in(buffer: &[u8; BUFFER], len: usize) -> u8 {
+    if len == 0 {
+        return 0;
+    }
+    buffer[3]
+}
+
+// How many bytes of the wanted answers have come after a call that wrote len bytes and returned this number.
+fn matched_after(
+    from: usize,
+    buffer: &[u8; BUFFER],
+    len: usize,
+    number: u8,
+    wanted: &[u8],
+) -> usize {
+    if wanted.len() < from {
+        return FAILED;
+    }
+    if wanted.len() - from < len {
+        return FAILED;
+    }
+    let end = from + len;
+    if holds(buffer, &wanted[from..end]) && number == number_in(buffer, len) {
+        return end;
+    }
+    FAILED
+}
+
+fn is_same(a: State, b: State) -> bool {
+    let x = a.frame;
+    let y = b.frame;
+    let x_body = x.body;
+    let y_body = y.body;
+    x.count == y.count && x.hi == y.hi && x.lo == y.lo && check::same(&x_body, &y_body)
+}
+
+// ---- calls that change nothing
+
+// Whether both calls returned this number, and neither used a byte or answered.
+fn are_idle(taken: Taken, closed: Closed, number: u8) -> bool {
+    taken.refusal == number
+        && taken.used == 0
+        && taken.len == 0
+        && closed.refusal == number
+        && closed.len == 0
+}
+
+// Whether take and then close, with a buffer of this size, return this number and leave state and buffer as they were.
+fn change_nothing(state: State, piece: &[u8], size: usize, number: u8) -> bool
+    requires { ⌜ size ≤ 516 ⌝ }
+{
+    let mut space = [FILL; BUFFER];
+    let buffer: &mut [u8] = &mut space[..size];
+    let taken = service::take(state, piece, buffer);
+    let closed = service::close(taken.state, buffer);
+    are_idle(taken, closed, number) && is_same(closed.state, state) && is_filled(buffer)
+}
+
+// A state that no bytes short of a whole frame leave, made from one that some do: with as many bytes as the longest frame, with a byte at
+// the last place of a body, or with a length byte that has not come.
+fn broken(state: State, way: usize) -> State {
+    let mut frame = state.frame;
+    if way == 0 {
+        frame.count = 65537;
+    } else if way == 1 {
+        frame.body[513] = 1;
+    } else if way == 2 {
+        frame.count = 0;
+        frame.hi = 1;
+    } else {
+        frame.count = 1;
+        frame.lo = 1;
+    }
+    let mut state = state;
+    state.frame = frame;
+    state
+}
+
+// Whether calls with a small buffer or a broken state are refused. The word picks a small buffer and the broken state.
+fn refuses(state: State, piece: &[u8], word: usize) -> bool {
+    let bad = broken(state, word % 4);
+    change_nothing(state, piece, SMALL_BUFFER, 6)
+        && change_nothing(state, piece, word % BUFFER, 6)
+        && change_nothing(bad, piece, SMALL_BUFFER, 6)
+        && change_nothing(bad, piece, BUFFER, 7)
+}
+
+// ---- runs
+
+// One take of the piece's front. One that uses nothing, or more than there is, fails and ends the piece.
+fn take_next(run: Run, piece: &[u8], wanted: &[u8]) -> Run
+    requires { ⌜ 0 < length (now piece) ⌝ }
+    ensures { λ r. ⌜ (0 < r .used) × (r .used ≤ length (now (piece .entry))) ⌝ }
+{
+    let mut buffer = [FILL; BUFFER];
+    let taken = service::take(run.state, piece, &mut buffer);
+    let matched = matched_after(run.matched, &buffer, taken.len, taken.refusal, wanted);
+    let state = taken.state;
+    let used = taken.used;
+    let rest = piece.len();
+    if used == 0 || rest < used {
+        return Run {
+            state,
+            matched: FAILED,
+            used: rest,
+        };
+    }
+    Run {
+        state,
+        matched,
+        used,
+    }
+}
+
+// Refused calls, and then the piece, taken to its end.
+fn hand_over(run: Run, piece: &[u8], wanted: &[u8], word: usize) -> Run {
+    let mut run = run;
+    if !refuses(run.state, piece, word) {
+        run.matched = FAILED;
+    }
+    let mut at = 0;
+    while at < piece.len() {
+        run = take_next(run, &piece[at..], wanted);
+        at += run.used;
+    }
+    run
+}
+
+// Whether all the wanted answers came, and the end is answered by refusal 8 and leaves a service that an empty piece and another end do not
+// change.
+fn finish(run: Run, wanted: &[u8]) -> bool {
+    let mut buffer = [FILL; BUFFER];
+    let closed = service::close(run.state, &mut buffer);
+    run.matched == wanted.len()
+        && matched_after(0, &buffer, closed.len, closed.refusal, &[0, 2, 1, 8]) == 4
+        && change_nothing(closed.state, &wanted[0..0], BUFFER, 0)
+}
+
+// The generator of Lehmer with the numbers of Park and Miller.
+fn next_random(x: usize) -> usize
+    requires { ⌜ x < 2147483647 ⌝ }
+    ensures { λ r. ⌜ r < 2147483647 ⌝ }
+{
+    x * 48271 % 2147483647
+}
+
+// Where the piece that starts at a place ends. A run whose number is a place of the stream cuts it there, and any other at random.
+fn piece_end(number: usize, word: usize, at: usize, len: usize) -> usize
+    requires { ⌜ at < len ⌝ }
+    ensures { λ r. ⌜ (at < r) × (r ≤ len) ⌝ }
+{
+    if len < number {
+        return at + 1 + word % (len - at) % LONGEST_PIECE;
+    }
+    if at < number {
+        return number;
+    }
+    len
+}
+
+// Whether the run of this number, which is its seed too, does not fail.
+fn passes(stream: &[u8], wanted: &[u8], number: usize) -> bool
+    requires { ⌜ number < 2147483647 ⌝ }
+{
+    let mut run = Run {
+        state: service::fresh(),
+        matched: 0,
+        used: 0,
+    };
+    let mut word = number;
+    let mut at = 0;
+    while at < stream.len() {
+        word = next_random(word);
+        let end = piece_end(number, word, at, stream.len());
+        run = hand_over(run, &stream[at..end], wanted, word);
+        at = end;
+    }
+    finish(run, wanted)
+}
+
+fn print_number(before: &[u8], number: usize, after: &[u8]) {
+    io::write_all(STDOUT_FILENO, before);
+    io::print_decimal(STDOUT_FILENO, number as u64);
+    io::write_all(STDOUT_FILENO, after);
+}
+
+// Hands the whole stream on at once, and returns how long the answers are.
+fn answer_whole(stream: &[u8], answers: &mut [u8]) -> usize
+    ensures { λ r. ⌜ Counts r (now (answers .exit)) ⌝ }
+{
+    let handed = delivery::hand_on(service::fresh(), stream, answers);
+    handed.len
+}
+
+// How many of the runs fail.
+fn count_failures(stream: &[u8], wanted: &[u8], runs: usize) -> usize
+    requires { ⌜ runs < 2147483647 ⌝ }
+    ensures { λ r. ⌜ r ≤ runs ⌝ }
+{
+    let mut failures = 0;
+    let mut number = 0;
+    while number < runs {
+        if !passes(stream, wanted, number) {
+            print_number(b"run ", number, b" fails\n");
+            failures += 1;
+        }
+        number += 1;
+    }
+    failures
+}
+
+fn run_all(stream: &[u8])
+    requires { ⌜ length (now stream) ≤ 1048576 ⌝ }
+{
+    let mut space = vectors::space();
+    let len = answer_whole(stream, &mut space);
+    let runs = stream.len() + 1 + RANDOM_RUNS;
+    let failures = count_failures(stream, &space[..len], runs);
+    print_number(b"", runs, b" runs, ");
+    print_number(b"", failures, b" failures\n");
+}
+
+fn main() {
+    let mut space = vectors::space();
+    let len = vectors::read_text(&mut space);
+    run_all(&space[..len]);
+}
