@@ -9,11 +9,12 @@ use crate::random::Random;
 use crate::rust;
 use crate::values::{SIGN, linear, uniform};
 
-const OPERANDS: usize = 4096;
-const ROUNDS: usize = 2000;
+/// So many that no branch predictor learns them: with 4,096 of them musl's branches were foreseen in part, and it took 17 ns and not 21.
+const OPERANDS: usize = 65536;
+const ROUNDS: usize = 100;
 
 /// Rounds of the score, each call of which takes longer.
-const SCORE_ROUNDS: usize = 200;
+const SCORE_ROUNDS: usize = 12;
 
 type Three = (u64, u64, u64);
 
