@@ -12,23 +12,23 @@ use Rattle.exceptions.proofs.reply_at.Reads as reply-at-reads
 use Rattle.exceptions.proofs.+lookup_exception.{statement}
 use Rattle.exceptions.proofs.+lookup_exception.Tie.{close}
 
-abbrev μ-lookup-exception : Measures 1 lookup-exception-kinds.ps ℕ
-μ-lookup-exception κs a = a .1 .1 .0 - a .1 .0
+abbrev μ-lookup-exception : Measures 0 lookup-exception-kinds.ps ℕ
+μ-lookup-exception κs a = a .1 .0 - a .0
 
-abbrev lookup-exception-at : ℕ → In 1 lookup-exception-kinds.ps
+abbrev lookup-exception-at : ℕ → In 0 lookup-exception-kinds.ps
 lookup-exception-at t =
     and
-    1
+    0
     lookup-exception-kinds.ps
-    (is 1 lookup-exception-kinds.ps μ-lookup-exception t)
+    (is 0 lookup-exception-kinds.ps μ-lookup-exception t)
     lookup-exception.Pre
 
-abbrev lookup-exception-below : ℕ → In 1 lookup-exception-kinds.ps
+abbrev lookup-exception-below : ℕ → In 0 lookup-exception-kinds.ps
 lookup-exception-below t =
     and
-    1
+    0
     lookup-exception-kinds.ps
-    (falls 1 lookup-exception-kinds.ps _<_ μ-lookup-exception t)
+    (falls 0 lookup-exception-kinds.ps _<_ μ-lookup-exception t)
     lookup-exception.Pre
 
 pub +lookup-exception-spec : {M : Type 1} → statement M
@@ -46,28 +46,28 @@ pub +lookup-exception-spec : {M : Type 1} → statement M
     (λ c. empty _ _ _ (c .if1 .taken))
     -- the middle entry is one of the table
     (λ c. omega arith)
-    (λ c. record { fits = omega (arith, part-end (c .before .pre .1 .1)) })
-    (λ c κs. (c .before .pre .1 .0, omega (arith, part-end (c .before .pre .1 .1))))
-    (λ c κs. let s = c .before .before .before in (s .pre .1 .0, omega (arith, part-end (s .pre .1 .1))))
+    (λ c. record { fits = omega (arith, part-end (c .before .pre .1)) })
+    (λ c κs. omega (arith, part-end (c .before .pre .1)))
+    (λ c κs. let s = c .before .before .before in omega (arith, part-end (s .pre .1)))
     -- it is x
     (λ c.
     let c2 = c .before .before in
     let s = c2 .before .before in
-    hit-at _ _ _ (s .pre .1 .1) (c2 .before .if1 .left) (c2 .input-at .ensures) (c .reply-at .ensures) (c .before .if2 .taken))
+    hit-at _ _ _ (s .pre .1) (c2 .before .if1 .left) (c2 .input-at .ensures) (c .reply-at .ensures) (c .before .if2 .taken))
     -- x lies below it
     (λ c κs.
     let s = c .before .before .before .before in
-    (let h = s .pre .0 in omega arith, (s .pre .1 .0, narrow _ _ (omega arith) (omega arith) (s .pre .1 .1))))
+    (let h = s .pre .0 in omega arith, narrow _ _ (omega arith) (omega arith) (s .pre .1)))
     (λ c.
     let c3 = c .before .before .before in
     let s = c3 .before .before in
-    left-at _ _ _ (s .pre .1 .1) (c3 .before .if1 .left) (c3 .input-at .ensures) (c .before .if3 .taken) (c .lookup-exception .ensures))
+    left-at _ _ _ (s .pre .1) (c3 .before .if1 .left) (c3 .input-at .ensures) (c .before .if3 .taken) (c .lookup-exception .ensures))
     -- x lies above it
-    (λ c. record { fits = omega (arith, part-end (c .before .before .before .before .pre .1 .1)) })
+    (λ c. record { fits = omega (arith, part-end (c .before .before .before .before .pre .1)) })
     (λ c κs.
     let s = c .before .before .before .before in
-    (let h = s .pre .0 in omega arith, (s .pre .1 .0, narrow _ _ (omega arith) (omega arith) (s .pre .1 .1))))
+    (let h = s .pre .0 in omega arith, narrow _ _ (omega arith) (omega arith) (s .pre .1)))
     (λ c.
     let c3 = c .before .before .before in
     let s = c3 .before .before in
-    right-at _ _ _ (s .pre .1 .1) (c3 .before .if1 .left) (c3 .input-at .ensures) (c .before .before .if2 .left) (c .before .if3 .left) (c .lookup-exception2 .ensures))
+    right-at _ _ _ (s .pre .1) (c3 .before .if1 .left) (c3 .input-at .ensures) (c .before .before .if2 .left) (c .before .if3 .left) (c .lookup-exception2 .ensures))
