@@ -14,12 +14,13 @@ test: compare
 # Edge cases and a million random ones of each operation, where rustc is there; the score and random streams where the Rust source is too.
 compare:
 	@if command -v rustc >/dev/null; then \
-	    rt staticlib capi && rt check weigher && compare/build.sh && target/compare/compare run 1 && target/compare/compare streams 2; \
+	    rt staticlib capi && rt staticlib fast_fused_c && rt check weigher && compare/build.sh && target/compare/compare run 1 && target/compare/compare streams 2; \
 	else \
 	    echo "rustc is not installed: nothing is compared"; \
 	fi
 
 bench:
 	rt staticlib capi
+	rt staticlib fast_fused_c
 	compare/build.sh
 	target/compare/compare bench

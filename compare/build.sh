@@ -1,5 +1,5 @@
 #!/bin/sh
-# Builds target/compare/compare. Run in the repository's root, after `rt staticlib capi`:
+# Builds target/compare/compare. Run in the repository's root, after `rt staticlib capi` and `rt staticlib fast_fused_c`:
 #     compare/build.sh [SOURCE]
 # SOURCE is the folder of the Rust source, ../shared/docs/src where none is given. Where it is there, the Rust exp2m1 is built
 # from it unchanged. musl's software fma is linked under another name where Debian's package musl-dev is installed, and MPFR where
@@ -42,11 +42,12 @@ if [ -f "$source/libm/src/math/exp2m1.rs" ]; then
     ln -sfn "$(cd "$source" && pwd)" "$out/source"
     exp2m1 machine
     exp2m1 weigher
+    exp2m1 recorded
     if [ $# -gt 0 ]; then
         exp2m1 musl
         set -- "$@" --extern exp2m1_musl
     fi
-    set -- "$@" --cfg exp2m1 --extern exp2m1_machine --extern exp2m1_weigher
+    set -- "$@" --cfg exp2m1 --extern exp2m1_machine --extern exp2m1_weigher --extern exp2m1_recorded
 fi
 
 if grep -qs mpfr_exp2m1 /usr/include/mpfr.h; then

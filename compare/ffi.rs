@@ -1,4 +1,4 @@
-//! The functions of C: those of include/weigher.h, the platform's ldexp and ldexpf, and musl's fma where it is linked.
+//! The functions of C: those of include/weigher.h, the fma that the score calls, the platform's ldexp and ldexpf, and musl's fma where it is linked.
 //!
 //! Nothing checks these declarations against the C side. All of them take and return plain numbers, and are safe to call.
 
@@ -9,6 +9,11 @@ unsafe extern "C" {
     pub safe fn weigher_floor(x: u64) -> u64;
     pub safe fn weigher_scale(x: u64, n: i32) -> u64;
     pub safe fn weigher_score(x: u64) -> u64;
+}
+
+#[link(name = "fast_fused_c", kind = "static")]
+unsafe extern "C" {
+    pub safe fn fast_fused(a: u64, b: u64, c: u64) -> u64;
 }
 
 #[link(name = "m")]

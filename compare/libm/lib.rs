@@ -46,6 +46,19 @@ fn fma(x: f64, y: f64, z: f64) -> f64 {
 #[cfg(fma = "musl")]
 use ffi::musl_fma as fma;
 
+/// Stands in for fma.rs: the machine's, which keeps its operands.
+#[cfg(fma = "recorded")]
+fn fma(x: f64, y: f64, z: f64) -> f64 {
+    CALLS.with_borrow_mut(|calls| calls.push((x.to_bits(), y.to_bits(), z.to_bits())));
+    x.mul_add(y, z)
+}
+
+#[cfg(fma = "recorded")]
+thread_local! {
+    /// The operands of each call of fma so far.
+    pub static CALLS: std::cell::RefCell<Vec<(u64, u64, u64)>> = const { std::cell::RefCell::new(Vec::new()) };
+}
+
 /// Stands in for the one of fma.rs.
 fn fmaf(x: f32, y: f32, z: f32) -> f32 {
     x.mul_add(y, z)

@@ -7,11 +7,14 @@ use std::time::Instant;
 
 use crate::random::Random;
 use crate::rust;
-use crate::values::{SIGN, linear, uniform};
+use crate::values::{linear, uniform};
 
 /// So many that no branch predictor learns them: with 4,096 of them musl's branches were foreseen in part, and it took 17 ns and not 21.
 const OPERANDS: usize = 65536;
 const ROUNDS: usize = 100;
+
+/// Weights whose calls of fma are timed.
+const WEIGHTS: usize = 4096;
 
 /// Rounds of the score, each call of which takes longer.
 const SCORE_ROUNDS: usize = 12;
@@ -23,16 +26,15 @@ type Way<T> = (&'static str, Box<dyn Fn(&[T]) -> u64>);
 
 pub fn run() {
     let random = &mut Random::new(3);
-    let ways = fused_ways();
+    let ways = fused_ways("weigher", ffi::weigher_fused);
     let operands = prepare(|| three(random, -40, 40));
     time("fused, exponents from -40 to 40", &operands, &ways);
     let operands = prepare(|| three(random, -1022, 1023));
     time("fused, exponents of all normals", &operands, &ways);
-    let operands = prepare(|| product_and_negative(random));
-    time("fused, c = -(a * b) rounded", &operands, &ways);
     if cfg!(not(musl_fma)) {
         println!("musl's fma: not installed");
     }
+    score_calls(random);
 
     let operands = prepare(|| one(random, -2, 54));
     let ways = ways_of_one(ffi::weigher_round, &[("machine", f64::round_ties_even)]);
@@ -43,6 +45,17 @@ pub fn run() {
     let operands = prepare(|| (one(random, -40, 40), random.between(-100, 100) as i32));
     time("scale, n from -100 to 100", &operands, &scale_ways());
     score(random);
+}
+
+/// fma as the score calls it, on the operands of the Rust exp2m1's own calls.
+fn score_calls(random: &mut Random) {
+    let ways = fused_ways("fast_fused", ffi::fast_fused);
+    let weights = std::iter::repeat_with(|| linear(random, -50.0, 50.0)).take(WEIGHTS);
+    let operands = rust::fma_calls(weights);
+    time("fma as a score of -50 to 50 calls it", &operands, &ways);
+    let weights = std::iter::repeat_with(|| one(random, -60, -4)).take(WEIGHTS);
+    let operands = rust::fma_calls(weights);
+    time("fma as a score of 2^-60 to 2^-3 calls it", &operands, &ways);
 }
 
 fn score(random: &mut Random) {
@@ -72,23 +85,16 @@ fn three(random: &mut Random, lo: i64, hi: i64) -> Three {
     (operand(), operand(), operand())
 }
 
-/// The operands by which the rounding error of a product is computed.
-fn product_and_negative(random: &mut Random) -> Three {
-    let (a, b, _) = three(random, -40, 40);
-    let product = f64::from_bits(a) * f64::from_bits(b);
-    (a, b, product.to_bits() ^ SIGN)
-}
-
 fn way<T>(name: &'static str, call: impl Fn(&T) -> u64 + 'static) -> Way<T> {
     let round = move |operands: &[T]| operands.iter().fold(0, |all, x| all ^ call(x));
     (name, Box::new(round))
 }
 
-fn fused_ways() -> Vec<Way<Three>> {
-    let weigher = black_box(ffi::weigher_fused as extern "C" fn(u64, u64, u64) -> u64);
+fn fused_ways(name: &'static str, weigher: extern "C" fn(u64, u64, u64) -> u64) -> Vec<Way<Three>> {
+    let weigher = black_box(weigher);
     let machine = black_box(f64::mul_add as fn(f64, f64, f64) -> f64);
     vec![
-        way("weigher", move |&(a, b, c)| weigher(a, b, c)),
+        way(name, move |&(a, b, c)| weigher(a, b, c)),
         way("machine", move |&(a, b, c)| {
             machine(f64::from_bits(a), f64::from_bits(b), f64::from_bits(c)).to_bits()
         }),
@@ -135,6 +141,9 @@ fn time<T>(title: &str, operands: &[T], ways: &[Way<T>]) {
 
 /// Prints the least time of a call in any round for each way, and the ratio of the first way's to each other's.
 fn time_rounds<T>(rounds: usize, title: &str, operands: &[T], ways: &[Way<T>]) {
+    if operands.is_empty() {
+        return;
+    }
     let mut least = vec![f64::INFINITY; ways.len()];
     for _ in 0..rounds {
         for ((_, round), least) in ways.iter().zip(&mut least) {

@@ -8,6 +8,7 @@ use crate::{machine, rust};
 #[derive(Clone, Copy)]
 pub enum Case {
     Fused(u64, u64, u64),
+    FastFused(u64, u64, u64),
     Round(u64),
     Floor(u64),
     Scale(u64, i32),
@@ -15,9 +16,18 @@ pub enum Case {
 }
 
 impl Case {
+    pub fn fused((a, b, c): (u64, u64, u64)) -> Case {
+        Case::Fused(a, b, c)
+    }
+
+    pub fn fast_fused((a, b, c): (u64, u64, u64)) -> Case {
+        Case::FastFused(a, b, c)
+    }
+
     pub fn weigher(self) -> u64 {
         match self {
             Case::Fused(a, b, c) => ffi::weigher_fused(a, b, c),
+            Case::FastFused(a, b, c) => ffi::fast_fused(a, b, c),
             Case::Round(x) => ffi::weigher_round(x),
             Case::Floor(x) => ffi::weigher_floor(x),
             Case::Scale(x, n) => ffi::weigher_scale(x, n),
@@ -28,7 +38,7 @@ impl Case {
     /// The machine's answer, or the Rust exp2m1's.
     pub fn reference(self) -> u64 {
         match self {
-            Case::Fused(a, b, c) => machine::fused(a, b, c),
+            Case::Fused(a, b, c) | Case::FastFused(a, b, c) => machine::fused(a, b, c),
             Case::Round(x) => machine::round(x),
             Case::Floor(x) => machine::floor(x),
             Case::Scale(x, n) => machine::scale(x, n),
@@ -42,6 +52,7 @@ impl fmt::Display for Case {
     fn fmt(&self, f: &mut fmt::Formatter) -> fmt::Result {
         match self {
             Case::Fused(a, b, c) => write!(f, "fused {a:016x} {b:016x} {c:016x}"),
+            Case::FastFused(a, b, c) => write!(f, "fast_fused {a:016x} {b:016x} {c:016x}"),
             Case::Round(x) => write!(f, "round {x:016x}"),
             Case::Floor(x) => write!(f, "floor {x:016x}"),
             Case::Scale(x, n) => write!(f, "scale {x:016x} {n:08x}"),

@@ -15,11 +15,14 @@ pub struct Operation {
 
 pub const FUSED: Operation = Operation {
     name: "fused",
-    edges: fused_edges,
-    random: |random| {
-        let (a, b, c) = fused_operands(random);
-        Case::Fused(a, b, c)
-    },
+    edges: |specials| fused_edges(specials).map(Case::fused).collect(),
+    random: |random| Case::fused(fused_operands(random)),
+};
+
+pub const FAST_FUSED: Operation = Operation {
+    name: "fast_fused",
+    edges: |specials| fused_edges(specials).map(Case::fast_fused).collect(),
+    random: |random| Case::fast_fused(fused_operands(random)),
 };
 
 pub const ROUND: Operation = Operation {
@@ -61,21 +64,21 @@ const SUMS: [(u64, u64, u64); 9] = [
 ];
 
 /// Every three of the special values, and the sums above.
-fn fused_edges(specials: &[u64]) -> Vec<Case> {
+fn fused_edges(specials: &[u64]) -> impl Iterator<Item = (u64, u64, u64)> {
     let specials = both_signs(specials);
-    let mut cases = Vec::new();
+    let mut edges = Vec::new();
     for &a in &specials {
         for &b in &specials {
-            cases.extend(specials.iter().map(|&c| Case::Fused(a, b, c)));
+            edges.extend(specials.iter().map(|&c| (a, b, c)));
         }
     }
     for (a, b, c) in SUMS {
         for signs in 0..8 {
             let signed = |x: u64, place: u32| x | (signs >> place & 1) << 63;
-            cases.push(Case::Fused(signed(a, 0), signed(b, 1), signed(c, 2)));
+            edges.push((signed(a, 0), signed(b, 1), signed(c, 2)));
         }
     }
-    cases
+    edges.into_iter()
 }
 
 fn fused_operands(random: &mut Random) -> (u64, u64, u64) {

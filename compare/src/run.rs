@@ -1,7 +1,7 @@
 //! Compares the weigher with the machine and with the Rust exp2m1, case by case.
 
 use crate::case::Case;
-use crate::cases::{FLOOR, FUSED, ROUND, SCALE};
+use crate::cases::{FAST_FUSED, FLOOR, FUSED, ROUND, SCALE};
 use crate::random::Random;
 use crate::values::SPECIALS;
 use crate::{rust, score};
@@ -14,7 +14,7 @@ pub fn compare(millions: u64) -> bool {
     let mut random = Random::new(2);
     let count = millions * 1_000_000;
     let mut mismatches = 0;
-    for operation in [FUSED, ROUND, FLOOR, SCALE] {
+    for operation in [FUSED, FAST_FUSED, ROUND, FLOOR, SCALE] {
         let edges = (operation.edges)(&SPECIALS).into_iter();
         let others = (0..count).map(|_| (operation.random)(&mut random));
         mismatches += compare_operation(operation.name, edges.chain(others));

@@ -33,6 +33,20 @@ pub fn score(x: u64) -> u64 {
     machine::pattern(exp2m1(f64::from_bits(x)))
 }
 
+/// The operands of every fma that exp2m1 calls for these weights; none where there is no instance.
+#[cfg(exp2m1)]
+pub fn fma_calls(weights: impl Iterator<Item = u64>) -> Vec<(u64, u64, u64)> {
+    weights.for_each(|x| {
+        exp2m1_recorded::exp2m1(f64::from_bits(x));
+    });
+    exp2m1_recorded::CALLS.take()
+}
+
+#[cfg(not(exp2m1))]
+pub fn fma_calls(_: impl Iterator<Item = u64>) -> Vec<(u64, u64, u64)> {
+    Vec::new()
+}
+
 /// x of each entry of the exception tables: the first number of each line that has three.
 pub fn exceptions() -> Vec<u64> {
     TEXT.lines()
