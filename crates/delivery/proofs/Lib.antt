@@ -1,2 +1,5 @@
 pub mod Takes
 pub mod Promises
+pub mod Alike
+pub mod Calls
+pub mod Streams

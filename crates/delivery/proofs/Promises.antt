@@ -21,10 +21,10 @@ use Rattle.delivery.proofs.Takes.{take-most, take-unfinished, answer-mo
 
 -- ---- how far takes go
 
-record Reached (g : Given) (room : ℕ) (p : List ℕ) : Type 0 where
-  used : g .used ≤ length p
-  fits : length (g .answers) ≤ room
-  unfinished : whole (g .book .held) ≡ false
+pub record Reached (g : Given) (room : ℕ) (p : List ℕ) : Type 0 where
+  pub used : g .used ≤ length p
+  pub fits : length (g .answers) ≤ room
+  pub unfinished : whole (g .book .held) ≡ false
 
 none-reached : (b : Book) (room : ℕ) (p : List ℕ) → whole (b .held) ≡ false → Reached (nothing b) room p
 none-reached b room p w = record { used = omega arith; fits = omega arith; unfinished = w }
@@ -40,7 +40,7 @@ then-reached b room p next h r =
       unfinished = r .unfinished;
     }
 
-takes-reached : (n room : ℕ) (b : Book) (p : List ℕ) → whole (b .held) ≡ false → Reached (takes n room b p) room p
+pub takes-reached : (n room : ℕ) (b : Book) (p : List ℕ) → whole (b .held) ≡ false → Reached (takes n room b p) room p
 takes-reached zero room b p w = none-reached b room p w
 takes-reached (suc n) room b [] w = none-reached b room [] w
 takes-reached (suc n) room b (x ∷ p) w =
@@ -55,7 +55,7 @@ takes-reached (suc n) room b (x ∷ p) w =
     go true h r = rw h (none-reached b room (x ∷ p) w)
     go false h r = rw h (then-reached b room (x ∷ p) next (ltb-false room answerRoom h) r)
 
-delivery-uses : (b : Book) (p : List ℕ) (room : ℕ) → answerRoom ≤ room → 0 < length p → 0 < deliveryOf b p room .used
+pub delivery-uses : (b : Book) (p : List ℕ) (room : ℕ) → answerRoom ≤ room → 0 < length p → 0 < deliveryOf b p room .used
 unfolding deliveryOf
 delivery-uses b [] room h l = absurd (omega arith)
 delivery-uses b (x ∷ p) room h l = rw (takes-step (length p) room b (x ∷ p) l h) (omega (arith, uses b (x ∷ p) l))

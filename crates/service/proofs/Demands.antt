@@ -65,7 +65,7 @@ uses-some b x p = go (whole (move (b .held) (x ∷ p) .held)) refl
     go true e = rw e (first (whole (b .held ++ (x ∷ []))) refl)
     go false e = rw e (first (whole (b .held ++ (x ∷ []))) refl)
 
-map-append : (xs ys : List ℕ) → map byte (xs ++ ys) ≡ map byte xs ++ map byte ys
+pub map-append : (xs ys : List ℕ) → map byte (xs ++ ys) ≡ map byte xs ++ map byte ys
 map-append [] ys = refl
 map-append (x ∷ xs) ys = ap {B = List Item} (λ l. byte x ∷ l) (map-append xs ys)
 
@@ -82,7 +82,7 @@ handed-all (buffer ∷ buffers) b (x ∷ p) a l =
     ∙ sym (map-append (take (e .used) (x ∷ p)) (drop (e .used) (x ∷ p)))
     ∙ ap (map byte) (take-append-drop (e .used) (x ∷ p))
 
-joined-append : (cs ds : List Call) (b : Book) → joinedFrom b (cs ++ ds) ≡ joinedFrom b cs ++ joinedFrom (bookAfter b cs) ds
+pub joined-append : (cs ds : List Call) (b : Book) → joinedFrom b (cs ++ ds) ≡ joinedFrom b cs ++ joinedFrom (bookAfter b cs) ds
 joined-append [] ds b = refl
 joined-append (c ∷ cs) ds b =
     ap (λ (i : List Item). movedBy c (bookCall b c) ++ i) (joined-append cs ds (bookCall b c .book))

@@ -1,0 +1,74 @@
+-- Demand 3 for pieces that hand_on hands on, and for whole streams. proofs/Streams.antt proves it. Definitions only.
+use Prim.Native.Nat.{ℕ, zero, suc, _+_, _<_}
+use mathlib.Core.Path.{_≡_}
+use mathlib.Core.List.{List, [], _∷_, _++_, map, flatten}
+use mathlib.Core.Bool.{false}
+use lib.ListN.{length, take, drop}
+use Rattle.frames.specs.Frame.{answerRoom}
+use Rattle.service.specs.Book.{emptyBook, Call, Reply, isSmall}
+use Rattle.service.specs.Service.{freshState, closeOf, stateAfter}
+use Rattle.service.specs.Stream.{byte, closing, joined, parted, answersFrom, written}
+use Rattle.service.specs.Demands.{run, bookAfter, handedOn, AllLarge}
+use Rattle.service.specs.declared.State.{State}
+use Rattle.delivery.specs.Delivery.{handOn}
+
+-- the answers that a call left at the buffer's front
+abbrev pub front : Reply → List ℕ
+front r = take (r .len) (r .buffer)
+
+-- ---- hand_on, repeated on a piece's unused end until nothing is left
+
+-- the answers one after another, and after it the state, the buffer and what is left of the piece
+pub record Handed : Type 0 where
+  pub answers : List ℕ
+  pub state : State
+  pub buffer : List ℕ
+  pub left : List ℕ
+
+abbrev pub behind : List ℕ → Handed → Handed
+behind answers h = record { answers = answers ++ h .answers; state = h .state; buffer = h .buffer; left = h .left }
+
+-- at most n times
+abbrev pub handed : ℕ → State → List ℕ → List ℕ → Handed
+handed zero s piece buffer = record { answers = []; state = s; buffer = buffer; left = piece }
+handed (suc n) s [] buffer = record { answers = []; state = s; buffer = buffer; left = [] }
+handed (suc n) s (x ∷ piece) buffer =
+    let r = handOn s (x ∷ piece) buffer in
+    behind (front r) (handed n (r .state) (drop (r .used) (x ∷ piece)) (r .buffer))
+
+-- as often as the piece has bytes
+abbrev pub handedToEnd : State → List ℕ → List ℕ → Handed
+handedToEnd s piece buffer = handed (length piece) s piece buffer
+
+-- What the program writes: the answers to each piece that it reads, handed on to its end with one buffer, and then what close answers
+-- into another.
+abbrev pub outputOf : State → List (List ℕ) → List ℕ → List ℕ → List ℕ
+outputOf s [] buffer last = front (closeOf s last)
+outputOf s (piece ∷ pieces) buffer last =
+    let h = handedToEnd s piece buffer in
+    h .answers ++ outputOf (h .state) pieces (h .buffer) last
+
+-- ---- the statement
+
+-- After the calls cs, so many bytes of a piece were handed on by takes with buffers that are large enough: these takes have the same
+-- answers and leave the same state.
+pub record ByTakes (cs : List Call) (piece : List ℕ) (used : ℕ) (answers : List ℕ) (state : State) : Type 0 where
+  pub buffers : List (List ℕ)
+  pub large : AllLarge buffers
+  pub moves : joined (cs ++ handedOn (bookAfter emptyBook cs) piece buffers) ≡ joined cs ++ map byte (take used piece)
+  pub writes : flatten (written (run (cs ++ handedOn (bookAfter emptyBook cs) piece buffers))) ≡ flatten (written (run cs)) ++ answers
+  pub leaves : stateAfter freshState (cs ++ handedOn (bookAfter emptyBook cs) piece buffers) ≡ state
+
+-- for every list of calls from a fresh service, every piece, and every buffer that 6 does not refuse
+pub record Streams : Type 0 where
+  pub takes : (cs : List Call) (piece buffer : List ℕ) → isSmall buffer ≡ false
+      → let r = handOn (stateAfter freshState cs) piece buffer in ByTakes cs piece (r .used) (front r) (r .state)
+  -- one call stops before the piece's end only where it leaves no room for an answer
+  pub stops : (cs : List Call) (piece buffer : List ℕ) → isSmall buffer ≡ false
+      → let r = handOn (stateAfter freshState cs) piece buffer in r .used < length piece → length buffer < r .len + answerRoom
+  -- repeated, it hands on the whole piece
+  pub whole : (cs : List Call) (piece buffer : List ℕ) → isSmall buffer ≡ false
+      → let h = handedToEnd (stateAfter freshState cs) piece buffer in (h .left ≡ []) × ByTakes cs piece (length piece) (h .answers) (h .state)
+  -- the program's output is, in order, the answers to the frames of the bytes that it read, and to their unfinished end
+  pub output : (pieces : List (List ℕ)) (buffer last : List ℕ) → isSmall buffer ≡ false → isSmall last ≡ false
+      → outputOf freshState pieces buffer last ≡ flatten (answersFrom (emptyBook .memory) (parted (map byte (flatten pieces) ++ (closing ∷ [])) .points))
