@@ -1,4 +1,6 @@
 pub mod Takes
+pub mod Frames
+pub mod Runs
 pub mod Promises
 pub mod Alike
 pub mod Calls

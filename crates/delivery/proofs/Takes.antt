@@ -1,6 +1,6 @@
 -- The takes of a delivery, one by one: what is left to take after some of them. Assumes nothing.
 use Prim.Native.Nat.{ℕ, zero, suc, _+_, _-_, _≤_, _<_}
-use mathlib.Core.Path.{_≡_, refl, sym, ap, ap₂, _∙_}
+use mathlib.Core.Path.{_≡_, refl, sym, ap, ap₂, subst, _∙_}
 use mathlib.Core.List.{List, [], _∷_, _++_, append-assoc, append-nil}
 use mathlib.Core.Bool.{Bool, true, false}
 use native.Mathlib.Omega.{arith}
@@ -11,7 +11,7 @@ use borrow.Rule.Slice.PartMut.{putMid}
 use Rattle.frames.specs.Frame.{answerRoom, whole}
 use Rattle.words.proofs.Parts.{to-end, put-behind}
 use Rattle.service.specs.Memory.{viewOf}
-use Rattle.service.specs.Book.{Book, Entry, Reply, Take, move, stateOf, replyOf, bookTake, bookCall}
+use Rattle.service.specs.Book.{Book, Entry, Reply, Take, emptyBook, move, stateOf, replyOf, bookTake, bookCall}
 use Rattle.service.specs.Service.{takeOf, takenOf}
 use Rattle.service.specs.declared.State.{State}
 use Rattle.service.specs.declared.Taken.{Taken}
@@ -44,6 +44,14 @@ answer-most b p = go (whole (move (b .held) p .held)) refl
     go true w = rw w (answer-length (viewOf (b .memory)) (move (b .held) p .held) .1)
     go false w = rw w (omega arith)
 
+-- a take that answered leaves the book empty
+pub take-answered : (b : Book) (p : List ℕ) → 0 < length (bookTake b p .answer) → bookTake b p .book ≡ emptyBook
+take-answered b p = go (whole (move (b .held) p .held)) refl
+  where
+    go : (t : Bool) → whole (move (b .held) p .held) ≡ t → 0 < length (bookTake b p .answer) → bookTake b p .book ≡ emptyBook
+    go true w = rw w (λ h. refl)
+    go false w = rw w (λ h. absurd (omega arith))
+
 pub take-unfinished : (b : Book) (p : List ℕ) → whole (bookTake b p .book .held) ≡ false
 take-unfinished b p = settled-short (move (b .held) p) (b .memory)
 
@@ -72,13 +80,22 @@ pub uses : (b : Book) (p : List ℕ) → 0 < length p → 1 ≤ bookTake b p .us
 uses b [] l = absurd (omega arith)
 uses b (x ∷ p) l = uses-some b x p
 
+-- there is a turn for each byte that is left
+pub more-turns : (n used most : ℕ) → used < most → most - used ≤ n → (m : ℕ) × (n ≡ suc m)
+more-turns zero used most h l = absurd (omega arith)
+more-turns (suc m) used most h l = (m, refl)
+
 -- ---- a delivery under way
 
-abbrev behind : ℕ → List ℕ → Given → Given
+abbrev pub behind : ℕ → List ℕ → Given → Given
 behind used answers g = record { used = used + g .used; answers = answers ++ g .answers; book = g .book }
 
-behind-none : (g : Given) → g ≡ behind 0 [] g
+pub behind-none : (g : Given) → g ≡ behind 0 [] g
 behind-none g = ap (λ (n : ℕ). record { used = n; answers = g .answers; book = g .book }) (omega arith)
+
+pub behind-behind : (m n : ℕ) (x y : List ℕ) (g : Given) → behind m x (behind n y g) ≡ behind (m + n) (x ++ y) g
+behind-behind m n x y g =
+    ap₂ (λ (k : ℕ) (a : List ℕ). record { used = k; answers = a; book = g .book }) (omega arith) (sym (append-assoc x y (g .answers)))
 
 -- some takes are done: answers stand at the front, and a book shows the state from which the rest is taken
 pub record Going (g : Given) (piece out₀ : List ℕ) (out : List ℕ) (s : State) (used len : ℕ) : Type 0 where
@@ -171,15 +188,11 @@ module _ {g : Given} {piece out₀ out : List ℕ} {s : State} {used len : ℕ} 
         let u : t .len ≡ length (e .answer) = ap (λ (x : Taken). x .len) taken in
         omega (arith, answer-most (go .book) p, out-length)
 
-    more-turns : (n : ℕ) → length piece - used ≤ n → (m : ℕ) × (n ≡ suc m)
-    more-turns zero l = absurd (omega arith)
-    more-turns (suc m) l = (m, refl)
-
     pub going-on : Going g piece out₀ (putMid len (length out - len) out w) (t .state) (used + t .used) (len + t .len)
     going-on =
         let u : t .used ≡ e .used = ap (λ (x : Taken). x .used) taken in
         let l : t .len ≡ length (e .answer) = ap (λ (x : Taken). x .len) taken in
-        let m = more-turns (go .turns) (go .enough) in
+        let m = more-turns (go .turns) used (length piece) h (go .enough) in
         let r = length out₀ - len in
         let next = takes (m .0) (r - length (e .answer)) (e .book) (drop (e .used) p) in
         let big : answerRoom ≤ r = omega (arith, out-length) in
@@ -199,7 +212,7 @@ module _ {g : Given} {piece out₀ out : List ℕ} {s : State} {used len : ℕ} 
           rest =
               go .rest
               ∙ ap (behind used (go .answers)) (ap (λ (n : ℕ). takes n r (go .book) p) (m .1) ∙ takes-step (m .0) r (go .book) p some big)
-              ∙ ap₂ (λ (n : ℕ) (a : List ℕ). record { used = n; answers = a; book = next .book }) (omega arith) (sym (append-assoc (go .answers) (e .answer) (next .answers)))
+              ∙ behind-behind used (e .used) (go .answers) (e .answer) next
               ∙ (λ j. behind (used + sym u j) (go .answers ++ e .answer) (takes (m .0) (left j) (e .book) (places j)));
         }
       where
@@ -211,3 +224,7 @@ module _ {g : Given} {piece out₀ out : List ℕ} {s : State} {used len : ℕ} 
 
         places : drop (e .used) p ≡ drop (used + t .used) piece
         places = drop-drop (e .used) used piece ∙ ap (λ (n : ℕ). drop (used + n) piece) (sym u₀)
+
+    pub emptied-on : 0 < t .len → going-on .book ≡ emptyBook
+    unfolding going-on
+    emptied-on l = take-answered (go .book) p (subst (λ (n : ℕ). 0 < n) (ap (λ (x : Taken). x .len) taken) l)

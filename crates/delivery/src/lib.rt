@@ -9,7 +9,7 @@ ghost use lib.ListN.{length};
 ghost use Rattle.frames.specs.Frame.{whole};
 ghost use Rattle.service.specs.Book.{stateOf};
 ghost use Rattle.service.specs.Service.{bookOf};
-ghost use Rattle.delivery.specs.Delivery.{Delivers, Delivery, deliveryOf};
+ghost use Rattle.delivery.specs.Delivery.{Delivers, Delivery, Answers, deliveryOf};
 use frames::ANSWER_ROOM;
 use service::State;
 
@@ -25,7 +25,38 @@ pub struct HandedOn {
     pub refusal: u8,
 }
 
-// Takes frames off the piece's front until it is used up, or until there is no room for one more answer.
+// A run of whole frames: its bytes, and the bytes of the answers to it.
+struct Run {
+    used: usize,
+    len: usize,
+}
+
+// Answers the whole frames at the piece's front while there is room for one more answer. They are read where they stand: no state is
+// made of them and copied.
+fn answer_run(piece: &[u8], answers: &mut [u8]) -> Run
+    ensures { λ r. ⌜ Answers (now (piece .entry)) r (now (answers .entry)) (now (answers .exit)) ⌝ }
+{
+    let mut used = 0;
+    let mut len = 0;
+    while 2 <= piece.len() - used {
+        if answers.len() - len < ANSWER_ROOM {
+            return Run { used, len };
+        }
+        let from = used + 2;
+        let n = words::read_u16(piece, used) as usize;
+        if piece.len() - from < n {
+            return Run { used, len };
+        }
+        let to = from + n;
+        let answered = frames::respond(n, &piece[from..to], &mut answers[len..]);
+        used = to;
+        len += answered.len;
+    }
+    Run { used, len }
+}
+
+// Takes frames off the piece's front until it is used up, or until there is no room for one more answer. Behind a frame that ended
+// stands a run of whole frames; take has the frames that begin or end in another piece.
 fn take_frames(state: State, piece: &[u8], answers: &mut [u8]) -> HandedOn
     requires { ⌜ (state ≡ stateOf (bookOf state)) × (whole (bookOf state .held) ≡ false) ⌝ }
     ensures { λ r. ⌜ Delivery (deliveryOf (bookOf state) (now (piece .entry)) (length (now (answers .entry)))) r (now (answers .entry)) (now (answers .exit)) ⌝ }
@@ -46,6 +77,11 @@ fn take_frames(state: State, piece: &[u8], answers: &mut [u8]) -> HandedOn
         state = taken.state;
         used += taken.used;
         len += taken.len;
+        if 0 < taken.len {
+            let run = answer_run(&piece[used..], &mut answers[len..]);
+            used += run.used;
+            len += run.len;
+        }
     }
     HandedOn {
         state,

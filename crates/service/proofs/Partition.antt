@@ -42,13 +42,13 @@ pub part-right : (is : List Item) → Partition is (parted is)
 part-right is = part-from is [] whole-none
 
 -- what comes onePoint the end of a frame is no whole frame
-prefix-short : (x y : List ℕ) (b : ℕ) → length (x ++ (b ∷ y)) ≡ 2 + bodyLength (x ++ (b ∷ y)) → whole x ≡ false
+pub prefix-short : (x y : List ℕ) (b : ℕ) → length (x ++ (b ∷ y)) ≡ 2 + bodyLength (x ++ (b ∷ y)) → whole x ≡ false
 unfolding whole
 prefix-short [] y b e = refl
 prefix-short (a ∷ []) y b e = lt-leb (2 + (a * 256 + 0)) 1 (omega arith)
 prefix-short (a ∷ c ∷ x) y b e = lt-leb (2 + (a * 256 + c)) (suc (suc (length x))) (omega (arith, length-append x (b ∷ y)))
 
-exact-is-whole : (f : List ℕ) → length f ≡ 2 + bodyLength f → whole f ≡ true
+pub exact-is-whole : (f : List ℕ) → length f ≡ 2 + bodyLength f → whole f ≡ true
 unfolding whole
 exact-is-whole f e = le-leb (2 + bodyLength f) (length f) (omega arith)
 

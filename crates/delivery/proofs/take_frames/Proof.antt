@@ -1,10 +1,11 @@
--- `delivery::take_frames` meets its contract: each turn is one take of the book. Assumes nothing.
+-- `delivery::take_frames` meets its contract: each turn is one take of the book, and where it answered a run of whole frames. Assumes nothing.
 use Prim.Native.Nat.{_-_}
 use native.Mathlib.Omega.{arith}
 use lib.ListN.{length}
 use Rattle.service.specs.Service.{bookOf}
 use Rattle.delivery.specs.Delivery.{deliveryOf}
-use Rattle.delivery.proofs.Takes.{Going, going, going-empty, going-full, going-on, out-length, step-used, step-len}
+use Rattle.delivery.proofs.Takes.{Going, going, going-empty, going-full, going-on, emptied-on, out-length, step-used, step-len}
+use Rattle.delivery.proofs.Runs.{going-run, run-within}
 use Rattle.delivery.proofs.take_frames.Statement.{statement}
 use Rattle.delivery.proofs.take_frames.Tie as tie
 
@@ -50,30 +51,65 @@ take-requires : tie.Need-take-requires Inv-loop μ-loop
 take-requires c κs = tt
 
 add-used : tie.Need-add-used Inv-loop μ-loop
-add-used c =
-    let l = c .before .before .before .before .before .before .before .before .before .loop in
-    let t = c .before .before .before .before .take in
-    let s = c .before .before .before .before .before .before .before .before .before .before .before .before in
-    omega (arith, s .good .1 .0 .0, step-used (l .inv) (c .before .before .before .before .before .before .before .before .loop-test .taken) (c .before .before .before .before .before .before .before .if1 .left) (t .result) _ (t .ensures .0) (t .ensures .1) .0)
+add-used c = omega (arith, c .before .before .before .before .before .before .before .before .before .before .before .before .good .1 .0 .0, step-used (c .before .before .before .before .before .before .before .before .before .loop .inv) (c .before .before .before .before .before .before .before .before .loop-test .taken) (c .before .before .before .before .before .before .before .if1 .left) (c .before .before .before .before .take .result) _ (c .before .before .before .before .take .ensures .0) (c .before .before .before .before .take .ensures .1) .0)
 
 add-len : tie.Need-add-len Inv-loop μ-loop
-add-len c =
-    let l = c .before .before .before .before .before .before .before .before .before .before .loop in
-    let t = c .before .before .before .before .before .take in
-    let s = c .before .before .before .before .before .before .before .before .before .before .before .before .before in
-    omega (arith, s .good .1 .1 .0 .0, step-len (l .inv) (c .before .before .before .before .before .before .before .before .before .loop-test .taken) (c .before .before .before .before .before .before .before .before .if1 .left) (t .result) _ (t .ensures .0) (t .ensures .1))
+add-len c = omega (arith, c .before .before .before .before .before .before .before .before .before .before .before .before .before .good .1 .1 .0 .0, step-len (c .before .before .before .before .before .before .before .before .before .before .loop .inv) (c .before .before .before .before .before .before .before .before .before .loop-test .taken) (c .before .before .before .before .before .before .before .before .if1 .left) (c .before .before .before .before .before .take .result) _ (c .before .before .before .before .before .take .ensures .0) (c .before .before .before .before .before .take .ensures .1))
+
+sub-answer-run : tie.Need-sub-answer-run Inv-loop μ-loop
+sub-answer-run c = omega (arith, going-on (c .before .before .before .before .before .before .before .before .before .before .before .before .loop .inv) (c .before .before .before .before .before .before .before .before .before .before .before .loop-test .taken) (c .before .before .before .before .before .before .before .before .before .before .if1 .left) (c .before .before .before .before .before .before .before .take .result) _ (c .before .before .before .before .before .before .before .take .ensures .0) (c .before .before .before .before .before .before .before .take .ensures .1) .within)
+
+part-answer-run-start : tie.Need-part-answer-run-start Inv-loop μ-loop
+part-answer-run-start c = omega (arith, going-on (c .before .before .before .before .before .before .before .before .before .before .before .before .loop .inv) (c .before .before .before .before .before .before .before .before .before .before .before .loop-test .taken) (c .before .before .before .before .before .before .before .before .before .before .if1 .left) (c .before .before .before .before .before .before .before .take .result) _ (c .before .before .before .before .before .before .before .take .ensures .0) (c .before .before .before .before .before .before .before .take .ensures .1) .within)
+
+part-answer-run-end : tie.Need-part-answer-run-end Inv-loop μ-loop
+part-answer-run-end c = omega arith
+
+sub-answer-run-2 : tie.Need-sub-answer-run-2 Inv-loop μ-loop
+sub-answer-run-2 c =
+    let go = going-on (c .before .before .before .before .before .before .before .before .before .before .before .before .before .loop .inv) (c .before .before .before .before .before .before .before .before .before .before .before .before .loop-test .taken) (c .before .before .before .before .before .before .before .before .before .before .before .if1 .left) (c .before .before .before .before .before .before .before .before .take .result) _ (c .before .before .before .before .before .before .before .before .take .ensures .0) (c .before .before .before .before .before .before .before .before .take .ensures .1) in
+    omega (arith, go .room, out-length go)
+
+part-answer-run-start-2 : tie.Need-part-answer-run-start-2 Inv-loop μ-loop
+part-answer-run-start-2 c =
+    let go = going-on (c .before .before .before .before .before .before .before .before .before .before .before .before .before .loop .inv) (c .before .before .before .before .before .before .before .before .before .before .before .before .loop-test .taken) (c .before .before .before .before .before .before .before .before .before .before .before .if1 .left) (c .before .before .before .before .before .before .before .before .take .result) _ (c .before .before .before .before .before .before .before .before .take .ensures .0) (c .before .before .before .before .before .before .before .before .take .ensures .1) in
+    omega (arith, go .room, out-length go)
+
+part-answer-run-end-2 : tie.Need-part-answer-run-end-2 Inv-loop μ-loop
+part-answer-run-end-2 c = omega arith
+
+answer-run-requires : tie.Need-answer-run-requires Inv-loop μ-loop
+answer-run-requires c κs = tt
+
+add-used-2 : tie.Need-add-used-2 Inv-loop μ-loop
+add-used-2 c =
+    let go = going-on (c .before .before .before .before .before .before .before .before .before .before .before .before .before .before .before .before .before .before .loop .inv) (c .before .before .before .before .before .before .before .before .before .before .before .before .before .before .before .before .before .loop-test .taken) (c .before .before .before .before .before .before .before .before .before .before .before .before .before .before .before .before .if1 .left) (c .before .before .before .before .before .before .before .before .before .before .before .before .before .take .result) _ (c .before .before .before .before .before .before .before .before .before .before .before .before .before .take .ensures .0) (c .before .before .before .before .before .before .before .before .before .before .before .before .before .take .ensures .1) in
+    let empty = emptied-on (c .before .before .before .before .before .before .before .before .before .before .before .before .before .before .before .before .before .before .loop .inv) (c .before .before .before .before .before .before .before .before .before .before .before .before .before .before .before .before .before .loop-test .taken) (c .before .before .before .before .before .before .before .before .before .before .before .before .before .before .before .before .if1 .left) (c .before .before .before .before .before .before .before .before .before .before .before .before .before .take .result) _ (c .before .before .before .before .before .before .before .before .before .before .before .before .before .take .ensures .0) (c .before .before .before .before .before .before .before .before .before .before .before .before .before .take .ensures .1) (c .before .before .before .before .before .before .if2 .taken) in
+    let run = c .before .before .before .answer-run in
+    omega (arith, c .before .before .before .before .before .before .before .before .before .before .before .before .before .before .before .before .before .before .before .before .before .good .1 .0 .0, run-within go empty (run .result) _ (run .ensures) .0)
+
+add-len-2 : tie.Need-add-len-2 Inv-loop μ-loop
+add-len-2 c =
+    let go = going-on (c .before .before .before .before .before .before .before .before .before .before .before .before .before .before .before .before .before .before .before .loop .inv) (c .before .before .before .before .before .before .before .before .before .before .before .before .before .before .before .before .before .before .loop-test .taken) (c .before .before .before .before .before .before .before .before .before .before .before .before .before .before .before .before .before .if1 .left) (c .before .before .before .before .before .before .before .before .before .before .before .before .before .before .take .result) _ (c .before .before .before .before .before .before .before .before .before .before .before .before .before .before .take .ensures .0) (c .before .before .before .before .before .before .before .before .before .before .before .before .before .before .take .ensures .1) in
+    let empty = emptied-on (c .before .before .before .before .before .before .before .before .before .before .before .before .before .before .before .before .before .before .before .loop .inv) (c .before .before .before .before .before .before .before .before .before .before .before .before .before .before .before .before .before .before .loop-test .taken) (c .before .before .before .before .before .before .before .before .before .before .before .before .before .before .before .before .before .if1 .left) (c .before .before .before .before .before .before .before .before .before .before .before .before .before .before .take .result) _ (c .before .before .before .before .before .before .before .before .before .before .before .before .before .before .take .ensures .0) (c .before .before .before .before .before .before .before .before .before .before .before .before .before .before .take .ensures .1) (c .before .before .before .before .before .before .before .if2 .taken) in
+    let run = c .before .before .before .before .answer-run in
+    omega (arith, c .before .before .before .before .before .before .before .before .before .before .before .before .before .before .before .before .before .before .before .before .before .before .good .1 .1 .0 .0, run-within go empty (run .result) _ (run .ensures) .1)
 
 loop-less : tie.Need-loop-less Inv-loop μ-loop
-loop-less c =
-    let l = c .before .before .before .before .before .before .before .before .before .before .loop in
-    let t = c .before .before .before .before .before .take in
-    omega (arith, step-used (l .inv) (c .before .before .before .before .before .before .before .before .before .loop-test .taken) (c .before .before .before .before .before .before .before .before .if1 .left) (t .result) _ (t .ensures .0) (t .ensures .1) .1)
+loop-less c = omega (arith, c .before .before .before .before .before .before .before .before .before .before .before .before .before .before .before .before .before .before .loop-test .taken, step-used (c .before .before .before .before .before .before .before .before .before .before .before .before .before .before .before .before .before .before .before .loop .inv) (c .before .before .before .before .before .before .before .before .before .before .before .before .before .before .before .before .before .before .loop-test .taken) (c .before .before .before .before .before .before .before .before .before .before .before .before .before .before .before .before .before .if1 .left) (c .before .before .before .before .before .before .before .before .before .before .before .before .before .before .take .result) _ (c .before .before .before .before .before .before .before .before .before .before .before .before .before .before .take .ensures .0) (c .before .before .before .before .before .before .before .before .before .before .before .before .before .before .take .ensures .1) .1)
 
 loop-again : tie.Need-loop-again Inv-loop μ-loop
 loop-again c =
-    let l = c .before .before .before .before .before .before .before .before .before .before .loop in
-    let t = c .before .before .before .before .before .take in
-    going-on (l .inv) (c .before .before .before .before .before .before .before .before .before .loop-test .taken) (c .before .before .before .before .before .before .before .before .if1 .left) (t .result) _ (t .ensures .0) (t .ensures .1)
+    let go = going-on (c .before .before .before .before .before .before .before .before .before .before .before .before .before .before .before .before .before .before .before .loop .inv) (c .before .before .before .before .before .before .before .before .before .before .before .before .before .before .before .before .before .before .loop-test .taken) (c .before .before .before .before .before .before .before .before .before .before .before .before .before .before .before .before .before .if1 .left) (c .before .before .before .before .before .before .before .before .before .before .before .before .before .before .take .result) _ (c .before .before .before .before .before .before .before .before .before .before .before .before .before .before .take .ensures .0) (c .before .before .before .before .before .before .before .before .before .before .before .before .before .before .take .ensures .1) in
+    let empty = emptied-on (c .before .before .before .before .before .before .before .before .before .before .before .before .before .before .before .before .before .before .before .loop .inv) (c .before .before .before .before .before .before .before .before .before .before .before .before .before .before .before .before .before .before .loop-test .taken) (c .before .before .before .before .before .before .before .before .before .before .before .before .before .before .before .before .before .if1 .left) (c .before .before .before .before .before .before .before .before .before .before .before .before .before .before .take .result) _ (c .before .before .before .before .before .before .before .before .before .before .before .before .before .before .take .ensures .0) (c .before .before .before .before .before .before .before .before .before .before .before .before .before .before .take .ensures .1) (c .before .before .before .before .before .before .before .if2 .taken) in
+    let run = c .before .before .before .before .answer-run in
+    going-run go empty (run .result) _ (run .ensures)
+
+loop-less-2 : tie.Need-loop-less-2 Inv-loop μ-loop
+loop-less-2 c = omega (arith, step-used (c .before .before .before .before .before .before .before .before .before .before .before .before .loop .inv) (c .before .before .before .before .before .before .before .before .before .before .before .loop-test .taken) (c .before .before .before .before .before .before .before .before .before .before .if1 .left) (c .before .before .before .before .before .before .before .take .result) _ (c .before .before .before .before .before .before .before .take .ensures .0) (c .before .before .before .before .before .before .before .take .ensures .1) .1)
+
+loop-again-2 : tie.Need-loop-again-2 Inv-loop μ-loop
+loop-again-2 c = going-on (c .before .before .before .before .before .before .before .before .before .before .before .before .loop .inv) (c .before .before .before .before .before .before .before .before .before .before .before .loop-test .taken) (c .before .before .before .before .before .before .before .before .before .before .if1 .left) (c .before .before .before .before .before .before .before .take .result) _ (c .before .before .before .before .before .before .before .take .ensures .0) (c .before .before .before .before .before .before .before .take .ensures .1)
 
 same-length-2 : tie.Need-same-length-2 Inv-loop μ-loop
 same-length-2 c = out-length (c .before .loop .inv)
@@ -100,7 +136,18 @@ take-frames-spec =
     take-requires
     add-used
     add-len
+    sub-answer-run
+    part-answer-run-start
+    part-answer-run-end
+    sub-answer-run-2
+    part-answer-run-start-2
+    part-answer-run-end-2
+    answer-run-requires
+    add-used-2
+    add-len-2
     loop-less
     loop-again
+    loop-less-2
+    loop-again-2
     same-length-2
     returns-2)
