@@ -100,12 +100,9 @@ module _ (s : PartialFrame) where
   unfolding isLeft
   reach-body e f g = rw (short-test s e, f, g) refl
 
--- a byte of a body, by the lengths alone
+-- a byte of a body that is kept
 pub byte-kept : (s : PartialFrame) (b : ℕ) → 2 ≤ s .count → kept (lengthIn s) ≡ true → afterByte s b ≡ sized (s .count + 1) (s .hi) (s .lo) (set (s .body) (s .count - 2) b)
 byte-kept s b h k = byte-late s b h ∙ rw k refl
-
-pub byte-skipped : (s : PartialFrame) (b : ℕ) → 2 ≤ s .count → kept (lengthIn s) ≡ false → afterByte s b ≡ sized (s .count + 1) (s .hi) (s .lo) (s .body)
-byte-skipped s b h k = byte-late s b h ∙ rw k refl
 
 pub full-at : (s : PartialFrame) → 2 + lengthIn s ≤ s .count → wholeIn s ≡ true
 unfolding wholeIn
@@ -125,21 +122,21 @@ module _ (s x : PartialFrame) (p : List ℕ) (i : ℕ) (h : i < length p) (e : x
       ap (λ (y : PartialFrame). record { frame = y; used = i + 1; whole = true }) e
       ∙ sym (a ∙ advance-full s p i h (ap wholeIn (sym e) ∙ f))
 
--- a loop over the bytes of a body that is kept, or is not
-pub record Going (t : Bool) (piece : List ℕ) (from end : ℕ) (s₀ : PartialFrame) (used : ℕ) (s : PartialFrame) : Type 0 where
+-- a loop over the bytes of a body that is kept
+pub record Going (piece : List ℕ) (from end : ℕ) (s₀ : PartialFrame) (used : ℕ) (s : PartialFrame) : Type 0 where
   pub within : used ≤ length piece
   pub begun : 2 ≤ s .count
   pub short : s .count < end
-  pub keeps : kept (lengthIn s) ≡ t
+  pub keeps : kept (lengthIn s) ≡ true
   pub end-is : end ≡ 2 + lengthIn s
   pub end-most : end < 65538
   pub goes-on : further from (advance s₀ (drop from piece)) ≡ further used (advance s (drop used piece))
 
-pub going : {t : Bool} {piece : List ℕ} {from end : ℕ} {s : PartialFrame} → from ≤ length piece → wholeIn s ≡ false → 2 ≤ s .count → kept (lengthIn s) ≡ t → end ≡ 2 + lengthIn s → end < 65538
-    → Going t piece from end s from s
-going {t} {piece} {from} {end} {s} i w b k e m = record { within = i; begun = b; short = omega (arith, short-count s w); keeps = k; end-is = e; end-most = m; goes-on = refl }
+pub going : {piece : List ℕ} {from end : ℕ} {s : PartialFrame} → from ≤ length piece → wholeIn s ≡ false → 2 ≤ s .count → kept (lengthIn s) ≡ true → end ≡ 2 + lengthIn s → end < 65538
+    → Going piece from end s from s
+going {piece} {from} {end} {s} i w b k e m = record { within = i; begun = b; short = omega (arith, short-count s w); keeps = k; end-is = e; end-most = m; goes-on = refl }
 
-module _ {t : Bool} {piece : List ℕ} {from end used : ℕ} {s₀ s : PartialFrame} (g : Going t piece from end s₀ used s) where
+module _ {piece : List ℕ} {from end used : ℕ} {s₀ s : PartialFrame} (g : Going piece from end s₀ used s) where
   pub going-out : length piece ≤ used → record { frame = s; used = used; whole = false } ≡ further from (advance s₀ (drop from piece))
   going-out h = sym (g .goes-on ∙ advance-end s piece used h)
 
@@ -151,7 +148,7 @@ module _ {t : Bool} {piece : List ℕ} {from end used : ℕ} {s₀ s : PartialFr
     pub going-ended : end ≤ s .count + 1 → record { frame = next; used = used + 1; whole = true } ≡ further from (advance s₀ (drop from piece))
     going-ended i = turn-full s next piece used h (sym e) (g .goes-on) (full-at next (omega (arith, g .end-is)))
 
-    pub going-on : s .count + 1 < end → Going t piece from end s₀ (used + 1) next
+    pub going-on : s .count + 1 < end → Going piece from end s₀ (used + 1) next
     going-on i =
         record {
           within = omega arith;

@@ -151,24 +151,23 @@ fn skip_body(frame: PartialFrame, piece: &[u8], from: usize) -> Progress
     ensures { λ r. ⌜ r ≡ further from (advance frame (drop from (now (piece .entry)))) ⌝ }
 {
     let end = 2 + body_length(frame);
+    let n = frame.count;
+    let missing = end - n;
+    let left = piece.len() - from;
     let mut frame = frame;
-    let mut used = from;
-    while used < piece.len() {
-        let n = frame.count;
-        frame.count = n + 1;
-        used += 1;
-        if end <= n + 1 {
-            return Progress {
-                frame,
-                used,
-                whole: true,
-            };
-        }
+    if left < missing {
+        frame.count = n + left;
+        return Progress {
+            frame,
+            used: piece.len(),
+            whole: false,
+        };
     }
+    frame.count = end;
     Progress {
         frame,
-        used,
-        whole: false,
+        used: from + missing,
+        whole: true,
     }
 }
 

@@ -1,67 +1,41 @@
--- `partial_frame::skip_body` meets its contract: each turn is one byte more of a body that is not kept. Assumes nothing.
-use Prim.Native.Nat.{_-_}
-use mathlib.Core.Bool.{false}
+-- `partial_frame::skip_body` meets its contract: of a body that is not kept the bytes are only counted. Assumes nothing.
 use native.Mathlib.Omega.{arith}
-use lib.ListN.{length}
-use Rattle.partial_frame.proofs.Loops.{Going, going, going-out, going-ended, going-on, byte-skipped}
+use Rattle.partial_frame.proofs.Loops.{short-count}
+use Rattle.partial_frame.proofs.Skipped.{skipped-all, skipped-to-end}
+use borrow.Author.Needs.{needs}
 use Rattle.partial_frame.proofs.skip_body.Statement.{statement}
 use Rattle.partial_frame.proofs.skip_body.Tie as tie
 
-abbrev Inv-loop : tie.InvT-loop
-Inv-loop piece from end frame₀ used₀ frame used = Going false piece from end frame₀ used frame
+body-length-requires : tie.Need-body-length-requires
+body-length-requires c κs = search needs
 
-abbrev μ-loop : tie.MeasureT-loop
-μ-loop piece from end frame₀ used₀ frame used = length piece - used
+add-end : tie.Need-add-end
+add-end c = search needs
 
-body-length-requires : tie.Need-body-length-requires Inv-loop μ-loop
-body-length-requires c κs = tt
+sub-missing : tie.Need-sub-missing
+sub-missing c = omega (arith, short-count (c .before .before .args .frame) (c .before .before .pre .0))
 
-add-end : tie.Need-add-end Inv-loop μ-loop
-add-end c = omega arith
+sub-left : tie.Need-sub-left
+sub-left c = search needs
 
-loop-holds : tie.Need-loop-holds Inv-loop μ-loop
-loop-holds c =
-    let s = c .before .before in
-    going (s .pre .3) (s .pre .0) (s .pre .1) (s .pre .2) (omega arith) (omega arith)
+add-frame : tie.Need-add-frame
+add-frame c = search needs
 
-add-frame : tie.Need-add-frame Inv-loop μ-loop
-add-frame c = omega arith
-
-add-used : tie.Need-add-used Inv-loop μ-loop
-add-used c = omega arith
-
-add-if1 : tie.Need-add-if1 Inv-loop μ-loop
-add-if1 c = omega arith
-
-returns : tie.Need-returns Inv-loop μ-loop
+returns : tie.Need-returns
 returns c =
-    let l = c .before .before .loop in
-    going-ended (l .inv) (omega arith) (byte-skipped (l .frame) _ (l .inv .begun) (l .inv .keeps)) (omega arith)
+    let s = c .before .before .before in
+    skipped-all (s .args .frame) (s .args .piece .now) (s .args .from) (s .pre .0) (s .pre .1) (s .pre .2) (s .pre .3) (omega arith)
 
-loop-less : tie.Need-loop-less Inv-loop μ-loop
-loop-less c = omega arith
+add-t9 : tie.Need-add-t9
+add-t9 c = search needs
 
-loop-again : tie.Need-loop-again Inv-loop μ-loop
-loop-again c =
-    let l = c .before .before .loop in
-    going-on (l .inv) (omega arith) (byte-skipped (l .frame) _ (l .inv .begun) (l .inv .keeps)) (omega arith)
-
-returns-2 : tie.Need-returns-2 Inv-loop μ-loop
-returns-2 c = going-out (c .before .loop .inv) (c .loop-test .left)
+returns-2 : tie.Need-returns-2
+returns-2 c =
+    let s = c .before .before .before in
+    let l = c .before .body-length in
+    skipped-to-end (s .args .frame) (s .args .piece .now) (s .args .from) (s .pre .0) (s .pre .1) (s .pre .2) (s .pre .3) (l .result) (l .ensures .0) (omega arith)
 
 pub skip-body-spec : {M : Type 1} → statement M
 skip-body-spec =
     tie.close
-    (tie.spec
-    Inv-loop
-    μ-loop
-    body-length-requires
-    add-end
-    loop-holds
-    add-frame
-    add-used
-    add-if1
-    returns
-    loop-less
-    loop-again
-    returns-2)
+    (tie.spec body-length-requires add-end sub-missing sub-left add-frame returns add-t9 returns-2)

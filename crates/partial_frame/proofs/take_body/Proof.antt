@@ -1,6 +1,5 @@
 -- `partial_frame::take_body` meets its contract: each turn is one byte more of a body that is kept. Assumes nothing.
 use Prim.Native.Nat.{_-_}
-use mathlib.Core.Bool.{true}
 use native.Mathlib.Omega.{arith}
 use lib.ListN.{length}
 use Rattle.frames.proofs.Refusals.{kept-bounds}
@@ -9,7 +8,7 @@ use Rattle.partial_frame.proofs.take_body.Statement.{statement}
 use Rattle.partial_frame.proofs.take_body.Tie as tie
 
 abbrev Inv-loop : tie.InvT-loop
-Inv-loop piece from end frame₀ used₀ frame used = Going true piece from end frame₀ used frame
+Inv-loop piece from end frame₀ used₀ frame used = Going piece from end frame₀ used frame
 
 abbrev μ-loop : tie.MeasureT-loop
 μ-loop piece from end frame₀ used₀ frame used = length piece - used
