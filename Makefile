@@ -1,7 +1,8 @@
 # make run    the weigher on standard input and output
 # make test   the gate: layout, the comparisons, and rt ci
 # make bench  times the operations and the score beside the machine's, musl's and the Rust's
-.PHONY: run test compare bench
+# make throughput  times the program on whole streams beside the Rust service and cat
+.PHONY: run test compare bench throughput
 
 run:
 	@rt check weigher >&2
@@ -24,3 +25,9 @@ bench:
 	rt staticlib fast_fused_c
 	compare/build.sh
 	target/compare/compare bench
+
+throughput:
+	rt staticlib capi
+	rt check weigher
+	compare/build.sh
+	target/compare/compare throughput

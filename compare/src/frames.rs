@@ -90,6 +90,13 @@ pub fn any(random: &mut Random) -> Vec<u8> {
     frame(header, random)
 }
 
+/// A frame of these floats.
+pub fn of_floats(version: u8, kind: u8, floats: &[u64]) -> Vec<u8> {
+    let mut body = vec![version, kind];
+    body.extend(floats.iter().flat_map(|x| x.to_be_bytes()));
+    with_length(&body)
+}
+
 fn items(most: i64, random: &mut Random) -> usize {
     random.between(1, most) as usize
 }
@@ -101,7 +108,12 @@ fn frame(Header(length, version, kind): Header, random: &mut Random) -> Vec<u8> 
         body.extend(item(kind, random).iter().flat_map(|x| x.to_be_bytes()));
     }
     body.truncate(length);
-    let mut frame = (length as u16).to_be_bytes().to_vec();
+    with_length(&body)
+}
+
+/// The length bytes and a body.
+fn with_length(body: &[u8]) -> Vec<u8> {
+    let mut frame = (body.len() as u16).to_be_bytes().to_vec();
     frame.extend(body);
     frame
 }

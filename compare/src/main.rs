@@ -13,8 +13,10 @@ mod recorded;
 mod run;
 mod rust;
 mod score;
+mod serve;
 mod service;
 mod streams;
+mod throughput;
 mod values;
 mod vectors;
 
@@ -23,7 +25,8 @@ use std::io;
 use std::process::ExitCode;
 
 const USAGE: &str = "usage: compare run [MILLIONS] | compare mpfr [THOUSANDS] | compare streams [THOUSANDS] | compare bench
-       compare vectors | compare score-vectors | compare stream | compare short-stream | compare answers";
+       compare throughput [MEGABYTES] | compare serve [weigher] | compare vectors | compare score-vectors
+       compare stream | compare short-stream | compare answers";
 
 fn main() -> ExitCode {
     let words: Vec<String> = env::args().skip(1).collect();
@@ -35,6 +38,10 @@ fn main() -> ExitCode {
         ["mpfr", thousands] => with_number(thousands, compare_mpfr),
         ["streams"] => succeeds(streams::compare(100)),
         ["streams", thousands] => with_number(thousands, streams::compare),
+        ["throughput"] => succeeds(throughput::run(100)),
+        ["throughput", megabytes] => with_number(megabytes, throughput::run),
+        ["serve"] => written(serve::serve(&service::REFERENCE)),
+        ["serve", "weigher"] => written(serve::serve(&serve::WEIGHER)),
         ["bench"] => {
             bench::run();
             ExitCode::SUCCESS

@@ -1,4 +1,4 @@
-//! The framed service, written from document 01 alone, over the machine's fma and the Rust exp2m1.
+//! The framed service, written from document 01 alone, over the machine's fma and the Rust exp2m1, or others in their place.
 
 use crate::{machine, rust};
 
@@ -8,21 +8,47 @@ pub const LONGEST_BODY: usize = 514;
 /// The bytes of one float in a frame.
 pub const FLOAT: usize = 8;
 
+/// How the items of a frame are computed.
+pub struct Operations {
+    pub score: fn(u64) -> u64,
+    pub fused: fn(u64, u64, u64) -> u64,
+}
+
+pub const REFERENCE: Operations = Operations {
+    score: rust::score,
+    fused: machine::fused,
+};
+
 /// The answers to a whole stream and its end.
 pub fn answers(stream: &[u8]) -> Vec<u8> {
     let mut output = Vec::new();
+    let end = answer_frames(stream, &REFERENCE, &mut output);
+    answer_end(end, &mut output);
+    output
+}
+
+/// Writes the answers to the whole frames of a stream, and returns its unfinished end.
+pub fn answer_frames<'a>(
+    stream: &'a [u8],
+    operations: &Operations,
+    output: &mut Vec<u8>,
+) -> &'a [u8] {
     let mut rest = stream;
     while let Some((body, next)) = first_frame(rest) {
-        match results(body) {
-            Ok(results) => write_answer(&results, &mut output),
-            Err(number) => write_refusal(number, &mut output),
+        match results(body, operations) {
+            Ok(results) => write_answer(&results, output),
+            Err(number) => write_refusal(number, output),
         }
         rest = next;
     }
-    if !rest.is_empty() {
-        write_refusal(8, &mut output);
+    rest
+}
+
+/// Writes the answer to the end of a stream after an unfinished frame.
+pub fn answer_end(unfinished: &[u8], output: &mut Vec<u8>) {
+    if !unfinished.is_empty() {
+        write_refusal(8, output);
     }
-    output
 }
 
 /// The body of the first frame and what is behind it, where the frame is whole.
@@ -32,7 +58,7 @@ fn first_frame(stream: &[u8]) -> Option<(&[u8], &[u8])> {
 }
 
 /// The results of a body's items, or the number of the refusal.
-fn results(body: &[u8]) -> Result<Vec<u64>, u8> {
+fn results(body: &[u8], operations: &Operations) -> Result<Vec<u64>, u8> {
     let [version, kind, payload @ ..] = body else {
         return Err(1);
     };
@@ -42,9 +68,9 @@ fn results(body: &[u8]) -> Result<Vec<u64>, u8> {
     if *version != 1 {
         return Err(3);
     }
-    let (floats, result): (usize, fn(&[u64]) -> u64) = match kind {
-        1 => (1, |x| rust::score(x[0])),
-        2 => (3, |x| machine::fused(x[0], x[1], x[2])),
+    let floats = match kind {
+        1 => 1,
+        2 => 3,
         _ => return Err(4),
     };
     let size = floats * FLOAT;
@@ -53,8 +79,16 @@ fn results(body: &[u8]) -> Result<Vec<u64>, u8> {
     }
     Ok(payload
         .chunks(size)
-        .map(|item| result(&patterns(item)))
+        .map(|item| result(&patterns(item), operations))
         .collect())
+}
+
+/// The result of an item: of a weight, or of a triple.
+fn result(item: &[u64], operations: &Operations) -> u64 {
+    match *item {
+        [a, b, c] => (operations.fused)(a, b, c),
+        _ => (operations.score)(item[0]),
+    }
 }
 
 fn patterns(bytes: &[u8]) -> Vec<u64> {

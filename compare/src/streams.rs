@@ -7,7 +7,8 @@ use std::thread;
 use crate::random::Random;
 use crate::{frames, rust, service};
 
-const PROGRAM: &str = "target/bin/weigher";
+/// `rt check weigher` builds it.
+pub const PROGRAM: &str = "target/bin/weigher";
 
 /// Frames of one stream.
 const FRAMES: u64 = 500;
