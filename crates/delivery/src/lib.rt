@@ -39,7 +39,8 @@ fn answer_run(piece: &[u8], answers: &mut [u8]) -> Run
     let mut used = 0;
     let mut len = 0;
     while 2 <= piece.len() - used {
-        if answers.len() - len < ANSWER_ROOM {
+        let room = answers.len() - len;
+        if room < ANSWER_ROOM {
             return Run { used, len };
         }
         let from = used + 2;

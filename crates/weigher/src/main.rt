@@ -12,6 +12,7 @@ ghost use Prim.Native.Nat.{_≤_};
 ghost use lib.ListN.{length};
 ghost use Rattle.frames.specs.Frame.{answerRoom};
 ghost use Rattle.service.specs.Service.{isGood};
+ghost use Rattle.weigher.specs.Serve.{Serves};
 
 // Room for the answers to one read, so that one write follows it: a frame of two bytes has four bytes of answer, no frame has more for
 // its length, and the last take asks for ANSWER_ROOM.
@@ -69,10 +70,11 @@ struct Served {
     written: bool,
 }
 
-// Hands a piece on to its end, and writes every answer.
+// Hands a piece on to its end, and writes every answer. Its promise, Serves of specs/Serve.antt, is one step of outputOf of
+// crates/delivery/specs/Streams.antt, which is shown to be the answers to the frames of all that was read.
 fn serve(state: State, piece: &[u8], space: &mut [u8]) -> Served
     requires { ⌜ (isGood state ≡ true) × (answerRoom ≤ length (now space)) ⌝ }
-    ensures { λ r. ⌜ isGood (r .state) ≡ true ⌝ }
+    ensures { λ r. ⌜ Serves state (now (piece .entry)) (now (space .entry)) r (now (space .exit)) ⌝ }
 {
     let mut state = state;
     let mut at = 0;

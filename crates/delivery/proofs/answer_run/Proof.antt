@@ -21,8 +21,8 @@ loop-holds c = no-frames _ _
 sub-loop : tie.Need-sub-loop Inv-loop μ-loop
 sub-loop c = omega arith
 
-sub-if1 : tie.Need-sub-if1 Inv-loop μ-loop
-sub-if1 c = omega (arith, run-length (c .before .loop .inv))
+sub-room : tie.Need-sub-room Inv-loop μ-loop
+sub-room c = omega (arith, run-length (c .before .loop .inv))
 
 same-length : tie.Need-same-length Inv-loop μ-loop
 same-length c = run-length (c .before .before .loop .inv)
@@ -103,7 +103,7 @@ answer-run-spec =
     μ-loop
     loop-holds
     sub-loop
-    sub-if1
+    sub-room
     same-length
     returns
     add-from

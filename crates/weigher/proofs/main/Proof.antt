@@ -85,7 +85,7 @@ loop-less c = omega arith
 loop-again : tie.Need-loop-again Inv-loop μ-loop
 loop-again c =
     let i = c .before .before .before .before .before .before .before .before .before .before .before .before .before .before .before .loop .inv in
-    (omega arith, omega arith, c .before .before .before .before .serve .ensures)
+    (omega arith, omega arith, c .before .before .before .before .serve .ensures .good)
 
 returns-4 : tie.Need-returns-4 Inv-loop μ-loop
 returns-4 c = tt

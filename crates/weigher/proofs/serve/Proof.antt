@@ -1,22 +1,21 @@
--- `weigher::serve` meets its contract: the state stays good, so that each turn uses some bytes of the piece. Assumes nothing.
-use Prim.Native.Nat.{_≤_, _-_}
-use mathlib.Core.Path.{_≡_}
-use mathlib.Core.Bool.{true}
+-- `weigher::serve` meets its contract: each turn is one hand_on, which uses some bytes of the piece. Assumes nothing.
+use Prim.Native.Nat.{_-_}
 use native.Mathlib.Omega.{arith}
-use lib.ListN.{length, length-take, length-drop}
-use Rattle.frames.specs.Frame.{answerRoom}
-use Rattle.service.specs.Service.{isGood}
+use lib.ListN.{length, length-take}
+use Rattle.weigher.proofs.Serving.{Serving, serving, served, served-in-part, served-used, serving-on}
 use Rattle.weigher.proofs.serve.Statement.{statement}
 use Rattle.weigher.proofs.serve.Tie as tie
 
 abbrev Inv-loop : tie.InvT-loop
-Inv-loop piece space₀ state₀ at₀ space state at = (at ≤ length piece) × (isGood state ≡ true) × (answerRoom ≤ length space) × (length space ≡ length space₀)
+Inv-loop piece space₀ state₀ at₀ space state at = Serving state₀ piece space₀ space state at
 
 abbrev μ-loop : tie.MeasureT-loop
 μ-loop piece space₀ state₀ at₀ space state at = length piece - at
 
 loop-holds : tie.Need-loop-holds Inv-loop μ-loop
-loop-holds c = (omega arith, c .before .before .pre .0, c .before .before .pre .1, omega arith)
+loop-holds c =
+    let s = c .before .before in
+    serving (s .args .state) (s .args .piece .now) (s .args .space .now) (s .pre .0) (s .pre .1)
 
 sub-hand-on : tie.Need-sub-hand-on Inv-loop μ-loop
 sub-hand-on c = omega arith
@@ -43,32 +42,22 @@ same-length : tie.Need-same-length Inv-loop μ-loop
 same-length c = omega arith
 
 returns : tie.Need-returns Inv-loop μ-loop
-returns c =
-    let i = c .before .before .before .before .before .before .before .before .before .before .loop .inv in
-    c .before .before .before .before .before .before .hand-on .ensures .goes-on (i .1) (i .2)
+returns c = served-in-part (c .before .before .before .before .before .before .before .before .before .before .loop .inv) (c .before .before .before .before .before .before .before .before .before .loop-test .taken) (c .before .before .before .before .before .before .hand-on .result) _ (c .before .before .before .before .before .before .hand-on .ensures)
 
 add-at : tie.Need-add-at Inv-loop μ-loop
-add-at c =
-    let h = c .before .before .before .before .before .before .before .hand-on .ensures in
-    omega (arith, simp (length-take, length-drop) at (h .used))
+add-at c = omega (arith, served-used (c .before .before .before .before .before .before .before .before .before .before .before .loop .inv) (c .before .before .before .before .before .before .before .before .before .before .loop-test .taken) (c .before .before .before .before .before .before .before .hand-on .result) _ (c .before .before .before .before .before .before .before .hand-on .ensures) .0)
 
 loop-less : tie.Need-loop-less Inv-loop μ-loop
-loop-less c =
-    let i = c .before .before .before .before .before .before .before .before .before .before .before .loop .inv in
-    let h = c .before .before .before .before .before .before .before .hand-on .ensures in
-    omega (arith, simp (length-take, length-drop) at (h .used), h .progress (i .1) (i .2) (simp (length-take, length-drop) (omega arith)))
+loop-less c = omega (arith, c .before .before .before .before .before .before .before .before .before .before .loop-test .taken, served-used (c .before .before .before .before .before .before .before .before .before .before .before .loop .inv) (c .before .before .before .before .before .before .before .before .before .before .loop-test .taken) (c .before .before .before .before .before .before .before .hand-on .result) _ (c .before .before .before .before .before .before .before .hand-on .ensures) .1)
 
 loop-again : tie.Need-loop-again Inv-loop μ-loop
-loop-again c =
-    let i = c .before .before .before .before .before .before .before .before .before .before .before .loop .inv in
-    let h = c .before .before .before .before .before .before .before .hand-on .ensures in
-    (omega (arith, simp (length-take, length-drop) at (h .used)), h .goes-on (i .1) (i .2), omega arith, omega arith)
+loop-again c = serving-on (c .before .before .before .before .before .before .before .before .before .before .before .loop .inv) (c .before .before .before .before .before .before .before .before .before .before .loop-test .taken) (c .before .before .before .before .before .before .before .hand-on .result) _ (c .before .before .before .before .before .before .before .hand-on .ensures) (omega arith)
 
 same-length-2 : tie.Need-same-length-2 Inv-loop μ-loop
 same-length-2 c = omega arith
 
 returns-2 : tie.Need-returns-2 Inv-loop μ-loop
-returns-2 c = c .before .loop .inv .1
+returns-2 c = served (c .before .loop .inv) (c .loop-test .left)
 
 pub serve-spec : {M : Type 1} → statement M
 serve-spec =
