@@ -62,7 +62,7 @@ pub record Delivers (s : State) (piece before : List ℕ) (r : HandedOn) (after 
   pub goes-on : isGood s ≡ true → answerRoom ≤ length before → isGood (r .state) ≡ true
   pub progress : isGood s ≡ true → answerRoom ≤ length before → 0 < length piece → 0 < r .used
 
--- ---- what the loops promise
+-- ---- what the functions of this crate say of each other; nothing here is part of what hand_on means
 
 pub record Delivery (g : Given) (r : HandedOn) (before after : List ℕ) : Type 0 where
   pub reply : r ≡ handedOnOf (given g before)

@@ -31,8 +31,8 @@ struct Run {
     len: usize,
 }
 
-// Answers the whole frames at the piece's front while there is room for one more answer. They are read where they stand: no state is
-// made of them and copied.
+// Answers the whole frames at the piece's front while there is room for one more answer. They are read where they stand: a state for
+// each of them would be copied several times.
 fn answer_run(piece: &[u8], answers: &mut [u8]) -> Run
     ensures { λ r. ⌜ Answers (now (piece .entry)) r (now (answers .entry)) (now (answers .exit)) ⌝ }
 {
@@ -56,8 +56,8 @@ fn answer_run(piece: &[u8], answers: &mut [u8]) -> Run
     Run { used, len }
 }
 
-// Takes frames off the piece's front until it is used up, or until there is no room for one more answer. Behind a frame that ended
-// stands a run of whole frames; take has the frames that begin or end in another piece.
+// Takes frames off the piece's front until it is used up, or until there is no room for one more answer. The whole frames behind one
+// that ended are answered as a run, so that take has only those that begin or end in another piece.
 fn take_frames(state: State, piece: &[u8], answers: &mut [u8]) -> HandedOn
     requires { ⌜ (state ≡ stateOf (bookOf state)) × (whole (bookOf state .held) ≡ false) ⌝ }
     ensures { λ r. ⌜ Delivery (deliveryOf (bookOf state) (now (piece .entry)) (length (now (answers .entry)))) r (now (answers .entry)) (now (answers .exit)) ⌝ }
