@@ -2,6 +2,7 @@ pub mod Takes
 pub mod Frames
 pub mod Runs
 pub mod Promises
+pub mod Room
 pub mod Alike
 pub mod Calls
 pub mod Streams

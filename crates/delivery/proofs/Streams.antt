@@ -1,12 +1,13 @@
 -- Demand 3 for pieces that are handed on, and for whole streams: deliveries one after another are one list of calls. Assumes nothing.
-use Prim.Native.Nat.{ℕ, zero, suc, _+_, _≤_, _<_}
+use Prim.Native.Nat.{ℕ, zero, suc, _+_, _*_, _≤_, _<_}
 use mathlib.Core.Path.{_≡_, refl, sym, ap, ap₂, subst, _∙_}
 use mathlib.Core.List.{List, [], _∷_, _++_, map, flatten, append-assoc, append-nil}
-use mathlib.Core.Bool.{false}
+use mathlib.Core.Bool.{Bool, true, false}
 use native.Mathlib.Omega.{arith}
 use lib.ListN.{length, drop, length-append, length-drop}
+use lib.Dec.{ltb}
 use lib.Seq.{take-all, take-append-seam}
-use borrow.Author.Tests.{le-ltb, ltb-false}
+use borrow.Author.Tests.{le-ltb, ltb-true, ltb-false}
 use Rattle.frames.specs.Frame.{answerRoom, whole}
 use Rattle.service.specs.Book.{Book, emptyBook, Call, Close, Reply, stateOf, bookCall, isSmall}
 use Rattle.service.specs.Stream.{Item, byte, closing, joined, joinedFrom, parted, answersFrom, written}
@@ -18,6 +19,7 @@ use Rattle.service.proofs.Demands.{demand-3, map-append, joined-append}
 use Rattle.delivery.specs.Delivery.{Given, deliveryOf, given, handOn}
 use Rattle.delivery.specs.Streams.{front, Handed, behind, handed, handedToEnd, outputOf, ByTakes, Streams}
 use Rattle.delivery.proofs.Promises.{Reached, takes-reached, delivery-uses}
+use Rattle.delivery.proofs.Room.{takes-most}
 use Rattle.delivery.proofs.Alike.{front-answer, hand-on-book}
 use Rattle.delivery.proofs.Calls.{after-unfinished, after-fresh, after-append, answersTo, answers-append, answers-cons, Calls, no-calls, more-calls, takes-calls, takes-stop}
 
@@ -44,6 +46,14 @@ module _ (b : Book) (p buffer : List ℕ) (l : isSmall buffer ≡ false) (w : wh
   hand-on-stops : g .used < length p → length buffer < length (g .answers) + answerRoom
   unfolding deliveryOf
   hand-on-stops = takes-stop (length p) (length buffer) b p (omega arith)
+
+  hand-on-once : 2 * length p + 2 * answerRoom ≤ length buffer → g .used ≡ length p
+  unfolding deliveryOf
+  hand-on-once h = go (ltb (g .used) (length p)) refl
+    where
+      go : (t : Bool) → ltb (g .used) (length p) ≡ t → g .used ≡ length p
+      go true e = absurd (omega (arith, hand-on-stops (ltb-true (g .used) (length p) e), ltb-true (g .used) (length p) e, takes-most (length p) (length buffer) b p))
+      go false e = omega (arith, ltb-false (g .used) (length p) e, reached .used)
 
   fronted : front (given g buffer) ≡ g .answers
   fronted = take-append-seam (g .answers) (drop (length (g .answers)) buffer)
@@ -159,6 +169,11 @@ streams =
           let b = bookAfter emptyBook cs in
           let w = after-unfinished cs emptyBook whole-none in
           rw (after-fresh cs, replied b piece buffer l w) (hand-on-stops b piece buffer l w);
+      once = λ cs piece buffer h.
+          let l : isSmall buffer ≡ false = le-ltb (length buffer) answerRoom (omega arith) in
+          let b = bookAfter emptyBook cs in
+          let w = after-unfinished cs emptyBook whole-none in
+          rw (after-fresh cs, replied b piece buffer l w) (hand-on-once b piece buffer l w h);
       whole = λ cs piece buffer l.
           let b = bookAfter emptyBook cs in
           let e = to-end (length piece) b piece buffer l (after-unfinished cs emptyBook whole-none) (omega arith) in

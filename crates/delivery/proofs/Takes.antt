@@ -62,7 +62,7 @@ take-reply b p buffer h w =
 
 -- ---- takes
 
-takes-none : (n room : ℕ) (b : Book) → takes n room b [] ≡ nothing b
+pub takes-none : (n room : ℕ) (b : Book) → takes n room b [] ≡ nothing b
 takes-none zero room b = refl
 takes-none (suc n) room b = refl
 

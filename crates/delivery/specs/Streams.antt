@@ -1,5 +1,5 @@
 -- Demand 3 for pieces that hand_on hands on, and for whole streams. proofs/Streams.antt proves it. Definitions only.
-use Prim.Native.Nat.{ℕ, zero, suc, _+_, _<_}
+use Prim.Native.Nat.{ℕ, zero, suc, _+_, _*_, _≤_, _<_}
 use mathlib.Core.Path.{_≡_}
 use mathlib.Core.List.{List, [], _∷_, _++_, map, flatten}
 use mathlib.Core.Bool.{false}
@@ -66,6 +66,8 @@ pub record Streams : Type 0 where
   -- one call stops before the piece's end only where it leaves no room for an answer
   pub stops : (cs : List Call) (piece buffer : List ℕ) → isSmall buffer ≡ false
       → let r = handOn (stateAfter freshState cs) piece buffer in r .used < length piece → length buffer < r .len + answerRoom
+  -- so one call hands on the whole piece where the buffer has twice its length and room for two answers
+  pub once : (cs : List Call) (piece buffer : List ℕ) → 2 * length piece + 2 * answerRoom ≤ length buffer → handOn (stateAfter freshState cs) piece buffer .used ≡ length piece
   -- repeated, it hands on the whole piece
   pub whole : (cs : List Call) (piece buffer : List ℕ) → isSmall buffer ≡ false
       → let h = handedToEnd (stateAfter freshState cs) piece buffer in (h .left ≡ []) × ByTakes cs piece (length piece) (h .answers) (h .state)

@@ -39,18 +39,18 @@ item-least kind = go (eqb kind 1) refl
     go false e = omega (arith, item-other (eqb-false kind 1 e))
 
 -- an answer has at least four bytes, and no more than there is room for
-pub answer-length : (n : ℕ) (b : List ℕ) → (4 ≤ length (answerTo n b .bytes)) × (length (answerTo n b .bytes) ≤ answerRoom)
+pub answer-length : (n : ℕ) (b : List ℕ) → (4 ≤ length (answerTo n b .bytes)) × (length (answerTo n b .bytes) ≤ answerRoom) × (length (answerTo n b .bytes) ≤ 2 * (2 + n))
 answer-length n b = go (eqb (refusalTo n b) 0) refl
   where
-    go : (t : Bool) → eqb (refusalTo n b) 0 ≡ t → (4 ≤ length (answerTo n b .bytes)) × (length (answerTo n b .bytes) ≤ answerRoom)
+    go : (t : Bool) → eqb (refusalTo n b) 0 ≡ t → (4 ≤ length (answerTo n b .bytes)) × (length (answerTo n b .bytes) ≤ answerRoom) × (length (answerTo n b .bytes) ≤ 2 * (2 + n))
     go true e =
         let g = good-length n b (eqb-true _ _ e) in
         let l = ap (λ (a : Answer). length (a .bytes)) (answer-good n b (eqb-true _ _ e)) ∙ length-accepted n b in
         let m = results-fit (n - 2) (itemBytes (getD b 1 0)) (item-least (getD b 1 0)) in
-        (omega arith, omega arith)
+        (omega arith, omega arith, omega arith)
     go false e =
         let l = ap (λ (a : Answer). length (a .bytes)) (answer-bad n b {k = refusalTo n b} refl (eqb-false _ _ e)) in
-        (omega arith, omega arith)
+        (omega arith, omega arith, omega arith)
 
 pub answer-number : (n : ℕ) (b : List ℕ) → answerTo n b .number ≤ 5
 answer-number n b = go (eqb (refusalTo n b) 0) refl

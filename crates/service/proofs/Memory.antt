@@ -1,5 +1,5 @@
 -- What the other proofs use of the memory: the state's view of it decides the answers, and goes on by the views alone. Assumes nothing.
-use Prim.Native.Nat.{ℕ, _+_, _≤_}
+use Prim.Native.Nat.{ℕ, _+_, _*_, _≤_}
 use mathlib.Core.Path.{_≡_, refl}
 use mathlib.Core.List.{List}
 use mathlib.Core.Bool.{true, false}
@@ -14,8 +14,9 @@ use Rattle.partial_frame.proofs.Held.{answer-held}
 use Rattle.service.specs.Memory.{Memory, View, viewOf, recalled, isView, stateWith, answerWith, remembered, showsMemory}
 use Rattle.service.specs.Service.{freshState}
 
--- an answer has four bytes at least and no more than there is room for, and its number is a sender's refusal or 0
-pub answer-length : (v : View) (f : List ℕ) → (4 ≤ length (answerWith v f .bytes)) × (length (answerWith v f .bytes) ≤ answerRoom)
+-- an answer has four bytes at least, no more than there is room for and no more than twice its frame, and its number is a sender's
+-- refusal or 0
+pub answer-length : (v : View) (f : List ℕ) → (4 ≤ length (answerWith v f .bytes)) × (length (answerWith v f .bytes) ≤ answerRoom) × (length (answerWith v f .bytes) ≤ 2 * (2 + bodyLength f))
 unfolding answerOf
 answer-length v f = frame-length (bodyLength f) (drop 2 f)
 

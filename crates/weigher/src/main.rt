@@ -14,12 +14,12 @@ ghost use Rattle.frames.specs.Frame.{answerRoom};
 ghost use Rattle.service.specs.Service.{isGood};
 ghost use Rattle.weigher.specs.Serve.{Serves};
 
-// Room for the answers to one read, so that one write follows it: a frame of two bytes has four bytes of answer, no frame has more for
-// its length, and the last take asks for ANSWER_ROOM.
-const ANSWERS: usize = 131588;
+// Room for the answers to one read of 65,536 bytes, so that one write follows it: twice its bytes and two answers (`once` of
+// crates/delivery/specs/Streams.antt). A frame of two bytes has four of answer, and the first frame may have come in part before.
+const ANSWERS: usize = 2 * 65536 + 2 * ANSWER_ROOM;
 
 fn answer_space() -> [u8; ANSWERS]
-    ensures { λ r. ⌜ 131588 ≡ length r ⌝ }
+    ensures { λ r. ⌜ 132104 ≡ length r ⌝ }
 {
     [0; ANSWERS]
 }
