@@ -5,8 +5,10 @@
 // specs/Streams.antt states demand 3 for pieces that are handed on and for whole streams, and proofs/Streams.antt proves it.
 ghost use mathlib.Core.Path.{_≡_};
 ghost use mathlib.Core.Bool.{false};
+ghost use Prim.Native.Nat.{_≤_};
 ghost use lib.ListN.{length};
-ghost use Rattle.frames.specs.Frame.{whole};
+ghost use Rattle.frames.specs.Frame.{answerRoom, whole, answerTo};
+ghost use Rattle.frames.specs.Written.{Written, Body};
 ghost use Rattle.service.specs.Book.{stateOf};
 ghost use Rattle.service.specs.Service.{bookOf};
 ghost use Rattle.delivery.specs.Delivery.{Delivers, Delivery, Answers, deliveryOf};
@@ -31,6 +33,20 @@ struct Run {
     len: usize,
 }
 
+// Answers a frame with a body of n bytes, and returns the answer's length. A refused frame is answered here: respond has the scores in
+// it, and a call of it takes longer than a refusal.
+fn answer_frame(n: usize, body: &[u8], answer: &mut [u8]) -> usize
+    requires { ⌜ Body n (now body) × (answerRoom ≤ length (now answer)) ⌝ }
+    ensures { λ r. ⌜ Written (answerTo n (now (body .entry))) (record { len = r; refusal = answerTo n (now (body .entry)) .number }) (now (answer .entry)) (now (answer .exit)) ⌝ }
+{
+    let refusal = frames::refusal_to(n, body);
+    if refusal != 0 {
+        return frames::write_refusal(refusal, answer);
+    }
+    let answered = frames::respond(n, body, answer);
+    answered.len
+}
+
 // Answers the whole frames at the piece's front while there is room for one more answer. They are read where they stand: a state for
 // each of them would be copied several times.
 fn answer_run(piece: &[u8], answers: &mut [u8]) -> Run
@@ -49,9 +65,8 @@ fn answer_run(piece: &[u8], answers: &mut [u8]) -> Run
             return Run { used, len };
         }
         let to = from + n;
-        let answered = frames::respond(n, &piece[from..to], &mut answers[len..]);
+        len += answer_frame(n, &piece[from..to], &mut answers[len..]);
         used = to;
-        len += answered.len;
     }
     Run { used, len }
 }

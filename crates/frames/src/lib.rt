@@ -96,7 +96,7 @@ fn bad_payload(kind: u8, n: usize) -> bool
 }
 
 // The first of the refusals 1 to 5 that a body of n bytes meets, or 0. Where n is 2 to 514, body is that body.
-fn refusal_to(n: usize, body: &[u8]) -> u8
+pub fn refusal_to(n: usize, body: &[u8]) -> u8
     requires { ⌜ Body n (now body) ⌝ }
     ensures { λ r. ⌜ r ≡ refusalTo n (now (body .entry)) ⌝ }
 {

@@ -51,43 +51,43 @@ returns-2 c = c .before .before .before .before .loop .inv
 add-to : tie.Need-add-to Inv-loop μ-loop
 add-to c = omega arith
 
-sub-respond : tie.Need-sub-respond Inv-loop μ-loop
-sub-respond c = omega arith
+sub-answer-frame : tie.Need-sub-answer-frame Inv-loop μ-loop
+sub-answer-frame c = omega arith
 
-part-respond-start : tie.Need-part-respond-start Inv-loop μ-loop
-part-respond-start c = omega arith
+part-answer-frame-start : tie.Need-part-answer-frame-start Inv-loop μ-loop
+part-answer-frame-start c = omega arith
 
-part-respond-end : tie.Need-part-respond-end Inv-loop μ-loop
-part-respond-end c = omega arith
+part-answer-frame-end : tie.Need-part-answer-frame-end Inv-loop μ-loop
+part-answer-frame-end c = omega arith
 
-sub-respond-2 : tie.Need-sub-respond-2 Inv-loop μ-loop
-sub-respond-2 c = omega (arith, run-length (c .before .before .before .before .before .loop .inv))
+sub-answer-frame-2 : tie.Need-sub-answer-frame-2 Inv-loop μ-loop
+sub-answer-frame-2 c = omega (arith, run-length (c .before .before .before .before .before .loop .inv))
 
-part-respond-start-2 : tie.Need-part-respond-start-2 Inv-loop μ-loop
-part-respond-start-2 c = omega (arith, run-length (c .before .before .before .before .before .loop .inv))
+part-answer-frame-start-2 : tie.Need-part-answer-frame-start-2 Inv-loop μ-loop
+part-answer-frame-start-2 c = omega (arith, run-length (c .before .before .before .before .before .loop .inv))
 
-part-respond-end-2 : tie.Need-part-respond-end-2 Inv-loop μ-loop
-part-respond-end-2 c = omega arith
+part-answer-frame-end-2 : tie.Need-part-answer-frame-end-2 Inv-loop μ-loop
+part-answer-frame-end-2 c = omega arith
 
-respond-requires : tie.Need-respond-requires Inv-loop μ-loop
-respond-requires c κs =
+answer-frame-requires : tie.Need-answer-frame-requires Inv-loop μ-loop
+answer-frame-requires c κs =
     let s = c .before .before .before .before .before .before .loop in
     ((λ k. body-length (c .before .before .before .before .before .before .before .before .before .args .piece .now) (s .used) (c .before .before .before .read-u16 .result) (omega arith)), omega (arith, ap length (to-end (s .len) (s .answers)), length-drop (s .len) (s .answers)))
 
 add-len : tie.Need-add-len Inv-loop μ-loop
 add-len c =
-    let l = c .before .before .before .before .before .before .before .before .before .before .loop in
-    let w = c .before .before .before .respond in
-    omega (arith, c .before .before .before .before .before .before .before .before .before .before .before .before .before .good .1 .0 .0, one-more-fits (l .inv) (c .before .before .before .before .before .before .before .read-u16 .result) (omega arith) (c .before .before .before .before .before .before .before .read-u16 .ensures) (c .before .before .before .before .before .before .before .before .if1 .left) (w .result) _ (w .ensures))
+    let l = c .before .before .before .before .before .before .before .before .before .loop in
+    let w = c .before .before .answer-frame in
+    omega (arith, c .before .before .before .before .before .before .before .before .before .before .before .before .good .1 .0 .0, one-more-fits (l .inv) (c .before .before .before .before .before .before .read-u16 .result) (omega arith) (c .before .before .before .before .before .before .read-u16 .ensures) (c .before .before .before .before .before .before .before .if1 .left) _ _ (w .ensures))
 
 loop-less : tie.Need-loop-less Inv-loop μ-loop
 loop-less c = omega arith
 
 loop-again : tie.Need-loop-again Inv-loop μ-loop
 loop-again c =
-    let l = c .before .before .before .before .before .before .before .before .before .before .loop in
-    let w = c .before .before .before .respond in
-    one-more-frame (l .inv) (c .before .before .before .before .before .before .before .read-u16 .result) (omega arith) (c .before .before .before .before .before .before .before .read-u16 .ensures) (c .before .before .before .before .before .before .before .before .if1 .left) (w .result) _ (w .ensures)
+    let l = c .before .before .before .before .before .before .before .before .before .loop in
+    let w = c .before .before .answer-frame in
+    one-more-frame (l .inv) (c .before .before .before .before .before .before .read-u16 .result) (omega arith) (c .before .before .before .before .before .before .read-u16 .ensures) (c .before .before .before .before .before .before .before .if1 .left) _ _ (w .ensures)
 
 same-length-3 : tie.Need-same-length-3 Inv-loop μ-loop
 same-length-3 c = run-length (c .before .loop .inv)
@@ -113,13 +113,13 @@ answer-run-spec =
     same-length-2
     returns-2
     add-to
-    sub-respond
-    part-respond-start
-    part-respond-end
-    sub-respond-2
-    part-respond-start-2
-    part-respond-end-2
-    respond-requires
+    sub-answer-frame
+    part-answer-frame-start
+    part-answer-frame-end
+    sub-answer-frame-2
+    part-answer-frame-start-2
+    part-answer-frame-end-2
+    answer-frame-requires
     add-len
     loop-less
     loop-again
