@@ -50,14 +50,18 @@ outputOf s (piece ∷ pieces) buffer last =
 
 -- ---- the statement
 
+-- the calls cs, and then a piece handed on by takes with these buffers
+abbrev pub handedAfter : List Call → List ℕ → List (List ℕ) → List Call
+handedAfter cs piece buffers = cs ++ handedOn (bookAfter emptyBook cs) piece buffers
+
 -- After the calls cs, so many bytes of a piece were handed on by takes with buffers that are large enough: these takes have the same
 -- answers and leave the same state.
 pub record ByTakes (cs : List Call) (piece : List ℕ) (used : ℕ) (answers : List ℕ) (state : State) : Type 0 where
   pub buffers : List (List ℕ)
   pub large : AllLarge buffers
-  pub moves : joined (cs ++ handedOn (bookAfter emptyBook cs) piece buffers) ≡ joined cs ++ map byte (take used piece)
-  pub writes : flatten (written (run (cs ++ handedOn (bookAfter emptyBook cs) piece buffers))) ≡ flatten (written (run cs)) ++ answers
-  pub leaves : stateAfter freshState (cs ++ handedOn (bookAfter emptyBook cs) piece buffers) ≡ state
+  pub moves : joined (handedAfter cs piece buffers) ≡ joined cs ++ map byte (take used piece)
+  pub writes : flatten (written (run (handedAfter cs piece buffers))) ≡ flatten (written (run cs)) ++ answers
+  pub leaves : stateAfter freshState (handedAfter cs piece buffers) ≡ state
 
 -- for every list of calls from a fresh service, every piece, and every buffer that 6 does not refuse
 pub record Streams : Type 0 where
