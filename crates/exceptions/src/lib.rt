@@ -91,13 +91,14 @@ fn input_at(i: usize) -> f64
     }
 }
 
+// The table as a value. It has one caller: the compiler has to inline it for the arms to become a table.
 fn entries() -> [f64; 624]
     ensures { λ r. ⌜ r ≡ exceptions ⌝ }
 {
     EXCEPTIONS
 }
 
-// The same for an i that is not known, for which the table is built on the stack.
+// x of an entry of any stretch, from the table, which is built on the stack.
 fn other_input_at(i: usize) -> f64
     requires { ⌜ i < 208 ⌝ }
     ensures { λ r. ⌜ r ≡ input i ⌝ }

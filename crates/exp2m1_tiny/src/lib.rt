@@ -13,6 +13,7 @@ use math::fma_bits;
 use math::from_bits;
 use math::pattern;
 ghost use mathlib.Core.Path.{_≡_};
+ghost use Rattle.double_double.specs.Pairs.{bits, fma};
 ghost use Rattle.exp2m1_tiny.specs.Tiny.{degree4, hornerStep, exp2m1FastTiny, polynomialQ, exp2m1AccurateTiny};
 
 // A double-double approximation and the maximal corresponding absolute error.
@@ -69,13 +70,20 @@ fn degree_4(x: f64) -> f64
     let x4 = pattern(x2 * x2);
     let x1 = pattern(x);
     let x2 = pattern(x2);
-    let c8 = fma_bits(pattern(P[10]), x1, pattern(P[9])); // degree 8
-    let c6 = fma_bits(pattern(P[8]), x1, pattern(P[7])); // degree 6
-    let c4 = fma_bits(pattern(P[6]), x1, pattern(P[5])); // degree 4
+    let c8 = linear(P[10], x1, P[9]); // degree 8
+    let c6 = linear(P[8], x1, P[7]); // degree 6
+    let c4 = linear(P[6], x1, P[5]); // degree 4
     let c8 = fma_bits(pattern(P[11]), x2, c8); // degree 8
     let c4 = fma_bits(c6, x2, c4); // degree 4
     let c4 = fma_bits(c8, x4, c4); // degree 4
     from_bits(c4)
+}
+
+// a * x + b, on patterns of x and of the result.
+fn linear(a: f64, x: u64, b: f64) -> u64
+    ensures { λ r. ⌜ bits r ≡ fma a (bits x) b ⌝ }
+{
+    fma_bits(pattern(a), x, pattern(b))
 }
 
 // Multiply p by x and add ch + cl.

@@ -153,6 +153,7 @@ off-below (fin true m e) q w k p v = absurd (true≢false (v .0))
 off-below nan q w k p v = absurd v
 off-below (inf s) q w k p v = absurd v
 
+-- half of K
 abbrev H : ℕ
 H = 3377699720527872
 

@@ -159,6 +159,7 @@ pub fn t2_at(i: usize) -> Pair
     }
 }
 
+// The tables as values. Each has one caller: the compiler has to inline it for the arms to become a table.
 fn t1() -> [Pair; 64]
     ensures { λ r. ⌜ r ≡ T1 ⌝ }
 {
