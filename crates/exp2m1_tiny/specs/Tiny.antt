@@ -18,28 +18,23 @@ hornerStep x p ch cl =
     let t = fastTwoSum ch (q .hi) in
     pair (t .hi) (add binary64 (q .lo) (add binary64 (t .lo) cl))
 
--- the sum of the terms of degree 4 or higher, over x ^ 4, in double precision
+-- the coefficients of degree 4 or higher of the fast phase, in double precision
 unfoldable pub degree4 : Float → Float
 degree4 x =
     let x2 = mul binary64 x x in
     let x4 = mul binary64 x2 x2 in
-    let c8 = fma (P 11) x2 (fma (P 10) x (P 9)) in
-    let c6 = fma (P 8) x (P 7) in
-    let c4 = fma (P 6) x (P 5) in
-    fma c8 x4 (fma c6 x2 c4)
-
--- the fast phase
-unfoldable pub exp2m1FastTiny : Float → Estimate
-exp2m1FastTiny x =
-    let x2 = mul binary64 x x in
-    let x4 = mul binary64 x2 x2 in
-    -- the coefficients of degree 4 or higher, in double precision
     let c8 = fma (P 10) x (P 9) in
     let c6 = fma (P 8) x (P 7) in
     let c4 = fma (P 6) x (P 5) in
     let d8 = fma (P 11) x2 c8 in
     let d4 = fma c6 x2 c4 in
-    let e4 = fma d8 x4 d4 in
+    fma d8 x4 d4
+
+-- the fast phase
+unfoldable pub exp2m1FastTiny : Float → Estimate
+unfolding degree4
+exp2m1FastTiny x =
+    let e4 = degree4 x in
     -- multiply e4 by x and add P 4, then multiply by x and add P 2 + P 3, P 0 + P 1
     let p3 = fastSum (P 4) (aMul e4 x) in
     let p2 = hornerStep x p3 (P 2) (P 3) in

@@ -58,7 +58,7 @@ pub fn exp2m1_fast_tiny(x: f64) -> Estimate
     Estimate { pair, err }
 }
 
-// The sum of the terms of degree 4 or higher, over x^4.
+// The coefficients of degree 4 or higher.
 fn degree_4(x: f64) -> f64
     ensures { λ r. ⌜ r ≡ degree4 x ⌝ }
 {
