@@ -1,31 +1,41 @@
-# make run    the weigher on standard input and output
-# make test   the gate: layout, the comparisons, and rt ci
-# make bench  times the operations beside the machine's, musl's and the Rust's, and the program on whole streams beside the Rust service and cat
-.PHONY: run test compare bench built
+# make run      the weigher on standard input and output
+# make test     the gate: layout, the comparisons, the examples, and rt ci
+# make archive  target/staticlib/libcapi.a, the functions of include/weigher.h for C and Rust to link
+# make bench    times the operations beside the machine's, musl's and the Rust's, and the program on whole streams beside the Rust service and cat
+.PHONY: run test archive program compare examples bench
+
+# One rt at a time works in target/.
+.NOTPARALLEL:
 
 run:
 	@rt check weigher >&2
 	@target/bin/weigher
 
-test: compare
+test: compare examples
+	docs/check-proofs.sh
 	rt fmt --check
 	rt ci
 
-# What compare links and starts.
-built:
+archive:
 	rt staticlib capi
-	rt staticlib fast_fused_c
+
+program:
 	rt check weigher
-	compare/build.sh
 
 # Edge cases and a million random ones of each operation, where rustc is there; the score and random streams where the Rust source is too.
-compare:
+compare: archive program
 	@if command -v rustc >/dev/null; then \
-	    $(MAKE) --no-print-directory built && target/compare/compare run 1 && target/compare/compare streams 2; \
+	    rt staticlib fast_fused_c && compare/build.sh && target/compare/compare run 1 && target/compare/compare streams 2; \
 	else \
 	    echo "rustc is not installed: nothing is compared"; \
 	fi
 
-bench: built
+# The examples in C, where a compiler is there.
+examples: archive
+	tests/c.sh
+
+bench: archive program
+	rt staticlib fast_fused_c
+	compare/build.sh
 	target/compare/compare bench
 	target/compare/compare throughput
