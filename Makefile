@@ -30,9 +30,10 @@ compare: archive program
 	    echo "rustc is not installed: nothing is compared"; \
 	fi
 
-# The examples in C, where a compiler is there.
+# The examples in C where a compiler is there, and the Rust crate where cargo is.
 examples: archive
 	tests/c.sh
+	tests/rust.sh
 
 bench: archive program
 	rt staticlib fast_fused_c

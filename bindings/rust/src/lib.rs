@@ -1,0 +1,59 @@
+#![doc = include_str!("../README.md")]
+
+pub mod bits;
+
+/// 2^x - 1, the score of the weight x.
+///
+/// ```
+/// assert_eq!(weigher::score(3.0), 7.0);
+/// assert_eq!(weigher::score(-60.0), -1.0);
+/// assert_eq!(weigher::score(1024.0), f64::INFINITY);
+/// assert!(weigher::score(f64::NAN).is_nan());
+/// ```
+pub fn score(x: f64) -> f64 {
+    f64::from_bits(bits::score(x.to_bits()))
+}
+
+/// a × b + c, rounded once.
+///
+/// ```
+/// let a = 1.0 + f64::EPSILON;
+/// let c = -(1.0 + 2.0 * f64::EPSILON);
+/// assert_eq!(weigher::fused(a, a, c), f64::EPSILON * f64::EPSILON);
+/// assert_eq!(a * a + c, 0.0); // the product was rounded before the sum
+/// ```
+pub fn fused(a: f64, b: f64, c: f64) -> f64 {
+    f64::from_bits(bits::fused(a.to_bits(), b.to_bits(), c.to_bits()))
+}
+
+/// The nearest whole number, a tie to the even one, as `f64::round_ties_even`; `f64::round` takes ties away from zero. A zero result has
+/// the sign of x.
+///
+/// ```
+/// assert_eq!(weigher::round(2.5), 2.0);
+/// assert_eq!(weigher::round(3.5), 4.0);
+/// assert!(weigher::round(-0.5).is_sign_negative());
+/// ```
+pub fn round(x: f64) -> f64 {
+    f64::from_bits(bits::round(x.to_bits()))
+}
+
+/// The greatest whole number not above x. The sign of a zero is kept.
+///
+/// ```
+/// assert_eq!(weigher::floor(2.5), 2.0);
+/// assert_eq!(weigher::floor(-0.5), -1.0);
+/// ```
+pub fn floor(x: f64) -> f64 {
+    f64::from_bits(bits::floor(x.to_bits()))
+}
+
+/// x × 2^n, rounded once. A zero or infinite result has the sign of x.
+///
+/// ```
+/// assert_eq!(weigher::scale(1.5, 4), 24.0);
+/// assert_eq!(weigher::scale(-1.0, i32::MAX), f64::NEG_INFINITY);
+/// ```
+pub fn scale(x: f64, n: i32) -> f64 {
+    f64::from_bits(bits::scale(x.to_bits(), n))
+}

@@ -1,0 +1,38 @@
+//! The functions on the repository's recorded vectors: answers of the Rust exp2m1 and of the machine's operations.
+
+use weigher::bits;
+
+const SCORES: &str = include_str!("../../../crates/exp2m1_vectors/stdin");
+const OPERATIONS: &str = include_str!("../../../crates/ieee754_vectors/stdin");
+
+fn number(word: &str) -> u64 {
+    u64::from_str_radix(word, 16).expect("a hexadecimal number")
+}
+
+/// Runs every vector and returns how many there are. A line has a function's name, its operands and the answer in hexadecimal; n of scale is
+/// a number of 32 bits in two's complement.
+fn run(vectors: &str) -> usize {
+    for line in vectors.lines() {
+        let words: Vec<&str> = line.split(' ').collect();
+        let (got, answer) = match words[..] {
+            ["score", x, answer] => (bits::score(number(x)), answer),
+            ["round", x, answer] => (bits::round(number(x)), answer),
+            ["floor", x, answer] => (bits::floor(number(x)), answer),
+            ["fused", a, b, c, answer] => (bits::fused(number(a), number(b), number(c)), answer),
+            ["scale", x, n, answer] => (bits::scale(number(x), number(n) as i32), answer),
+            _ => panic!("no vector: {line}"),
+        };
+        assert_eq!(got, number(answer), "{line}");
+    }
+    vectors.lines().count()
+}
+
+#[test]
+fn scores() {
+    assert_ne!(run(SCORES), 0);
+}
+
+#[test]
+fn operations() {
+    assert_ne!(run(OPERATIONS), 0);
+}
