@@ -30,8 +30,10 @@ compare: archive program
 	    echo "rustc is not installed: nothing is compared"; \
 	fi
 
-# The examples in C where a compiler is there, and the Rust crate where cargo is.
+# The examples of docs/PROTOCOL.md; those in C where a compiler is there, and the Rust crate where cargo is.
 examples: archive
+	rt check weigher
+	tests/protocol.sh
 	tests/c.sh
 	tests/rust.sh
 
