@@ -31,8 +31,7 @@ compare: archive program
 	fi
 
 # The examples of docs/PROTOCOL.md; those in C where a compiler is there, and the Rust crate where cargo is.
-examples: archive
-	rt check weigher
+examples: archive program
 	tests/protocol.sh
 	tests/c.sh
 	tests/rust.sh
