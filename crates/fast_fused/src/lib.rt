@@ -2,7 +2,7 @@
 // digits, and neither is shifted down; and quick where the product is small beside c: then nothing cancels, and one word will do. All
 // other operands are handed to `ieee754::fused`.
 ghost use mathlib.Core.Path.{_≡_};
-ghost use mathlib.Core.Bool.{true, cond};
+ghost use mathlib.Core.Bool.{true};
 ghost use Prim.Native.Nat.{ℕ, _+_, _-_, _*_, _^_, _≤_, _<_};
 ghost use lib.Ieee.{toBits, binary64};
 ghost use Rattle.wide.specs.Words.{value, jammed};
@@ -12,6 +12,7 @@ ghost use Rattle.ieee754.specs.Machine.{Reads, Summands, RoundsSum};
 ghost use Rattle.fast_fused.specs.Machine.{fieldOf, Near, NearParts, Small, SmallParts, SumOf};
 use ieee754::parts::Parts;
 use ieee754::parts::negative;
+use ieee754::parts::pick_sign;
 use ieee754::parts::unlike_signs;
 use rounding::Direction;
 use rounding::LEADING;
@@ -86,12 +87,6 @@ pub struct Signed {
     pub size: Wide,
 }
 
-fn pick_sign(b: bool, x: bool, y: bool) -> bool
-    ensures { λ r. ⌜ r ≡ cond b x y ⌝ }
-{
-    if b { x } else { y }
-}
-
 // ±p ±q. The sum and both differences are made, and one of them is picked.
 fn add_signed(s: bool, p: Wide, t: bool, q: Wide) -> Signed
     requires { ⌜ (value p < 2 ^ 127) × (value q < 2 ^ 127) ⌝ }
@@ -147,8 +142,7 @@ fn fused_near(a: u64, b: u64, c: u64) -> u64
 
 // ---- a product that is small beside c
 
-// Whether the product of a and b, of the fields x and y, is small beside c, of the field z: its first digit is below all digits but the
-// last 32 of c.
+// Whether the product of a and b, of the fields x and y, is surely below 2^-19 of c, of the field z.
 fn is_small(x: u64, y: u64, z: u64) -> bool
     requires { ⌜ (x < 2048) × (y < 2048) × (z < 2048) ⌝ }
     ensures { λ r. ⌜ (r ≡ true → Small x y z) ⌝ }

@@ -2,7 +2,6 @@
 // number of digits. The one of the smaller exponent is shifted down to the other's, with a sticky bit; then the sum, or
 // the difference by subtraction with a borrow, is rounded and packed once.
 ghost use mathlib.Core.Path.{_≡_};
-ghost use mathlib.Core.Bool.{cond};
 ghost use Prim.Native.Nat.{ℕ, _+_, _*_, _^_, _≤_, _<_};
 ghost use lib.Ieee.{toBits, ofBits, binary64};
 ghost use Rattle.wide.specs.Words.{value};
@@ -14,6 +13,7 @@ use crate::parts::NAN;
 use crate::parts::Parts;
 use crate::parts::is_regular;
 use crate::parts::negative;
+use crate::parts::pick_sign;
 use crate::parts::read;
 use crate::parts::unlike_signs;
 use rounding::Direction;
@@ -25,13 +25,6 @@ use rounding::sign_bit;
 use wide::Wide;
 
 // ---- finite numbers that are not zero
-
-// One of two signs, by a conditional move.
-fn pick_sign(b: bool, x: bool, y: bool) -> bool
-    ensures { λ r. ⌜ r ≡ cond b x y ⌝ }
-{
-    if b { x } else { y }
-}
 
 // The sign of an exact zero sum of unlike signs.
 fn zero_sign(dir: Direction) -> bool

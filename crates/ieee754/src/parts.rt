@@ -1,6 +1,6 @@
 // A 64-bit pattern as a sign, and as a significand and an exponent.
 ghost use mathlib.Core.Path.{_≡_};
-ghost use mathlib.Core.Bool.{true};
+ghost use mathlib.Core.Bool.{true, cond};
 ghost use Prim.Native.Nat.{_+_, _*_, _^_, _<_};
 ghost use lib.Ieee.{unlike};
 ghost use Rattle.ieee754.specs.Machine.{signOf, Regular, Normal, Reads};
@@ -28,6 +28,13 @@ pub fn unlike_signs(a: u64, b: u64) -> bool
     ensures { λ r. ⌜ r ≡ unlike (signOf a) (signOf b) ⌝ }
 {
     negative(a) != negative(b)
+}
+
+// One of two signs, by a conditional move.
+pub fn pick_sign(b: bool, x: bool, y: bool) -> bool
+    ensures { λ r. ⌜ r ≡ cond b x y ⌝ }
+{
+    if b { x } else { y }
 }
 
 // Whether b is finite and not zero.
