@@ -26,7 +26,7 @@ use std::process::ExitCode;
 
 const USAGE: &str = "usage: compare run [MILLIONS] | compare mpfr [THOUSANDS] | compare streams [THOUSANDS] | compare bench
        compare throughput [MEGABYTES] | compare serve [weigher] | compare vectors | compare score-vectors
-       compare stream | compare short-stream | compare answers";
+       compare stream | compare short-stream | compare random-stream SEED | compare answers";
 
 fn main() -> ExitCode {
     let words: Vec<String> = env::args().skip(1).collect();
@@ -50,6 +50,9 @@ fn main() -> ExitCode {
         ["score-vectors"] => written(vectors::write_scores()),
         ["stream"] => written(recorded::write_stream()),
         ["short-stream"] => written(recorded::write_short_stream()),
+        ["random-stream", seed] => {
+            with_number(seed, |seed| is_written(recorded::write_random_stream(seed)))
+        }
         ["answers"] => written(recorded::write_answers()),
         _ => usage(),
     }
@@ -80,10 +83,14 @@ fn succeeds(good: bool) -> ExitCode {
 }
 
 fn written(result: io::Result<()>) -> ExitCode {
+    succeeds(is_written(result))
+}
+
+fn is_written(result: io::Result<()>) -> bool {
     if let Err(error) = &result {
         eprintln!("compare: {error}");
     }
-    succeeds(result.is_ok())
+    result.is_ok()
 }
 
 fn usage() -> ExitCode {

@@ -3,7 +3,7 @@
 use std::io::{self, Read, Write};
 
 use crate::random::Random;
-use crate::{frames, rust, service};
+use crate::{frames, rust, service, streams};
 
 /// Random frames of the stream that is replayed.
 const FRAMES: usize = 200;
@@ -24,6 +24,11 @@ pub fn write_stream() -> io::Result<()> {
     stream.extend((0..FRAMES).flat_map(|_| frames::any(&mut random)));
     stream.extend(frames::unfinished(&mut random));
     io::stdout().write_all(&stream)
+}
+
+/// One of the streams that `streams` runs, by its seed.
+pub fn write_random_stream(seed: u64) -> io::Result<()> {
+    io::stdout().write_all(&streams::stream(&mut Random::new(seed)))
 }
 
 /// The answers to the stream on standard input and its end.

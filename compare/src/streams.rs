@@ -113,7 +113,7 @@ fn feed(
 }
 
 /// Frames of every kind and refusal, and sometimes an unfinished one at the end.
-fn stream(random: &mut Random) -> Vec<u8> {
+pub fn stream(random: &mut Random) -> Vec<u8> {
     let mut bytes: Vec<u8> = (0..FRAMES).flat_map(|_| frames::any(random)).collect();
     if random.below(2) == 0 {
         let last = frames::any(random);
