@@ -1,8 +1,10 @@
-# make run      the weigher on standard input and output
-# make test     the gate: layout, the comparisons, the examples, and rt ci
-# make archive  target/staticlib/libcapi.a, the functions of include/weigher.h for C and Rust to link
-# make bench    times the operations beside the machine's, musl's and the Rust's, and the program on whole streams beside the Rust service and cat
-.PHONY: run test archive program compare examples bench
+# make run          the weigher on standard input and output
+# make test         the gate: the comparisons, the examples, the program from outside, layout, and rt ci
+# make archive      target/staticlib/libcapi.a, the functions of include/weigher.h for C and Rust to link
+# make bench        times the operations beside the machine's, musl's and the Rust's, and the program on whole streams beside the Rust service and cat
+# make connections  400 connections under socat, each answer compared (tests/README.md)
+# make faults       readers and peers that go or stall, signals, failing calls, 200 instances, a gigabyte of frames (tests/README.md)
+.PHONY: run test archive program compare examples outside bench connections faults
 
 # One rt at a time works in target/.
 .NOTPARALLEL:
@@ -11,7 +13,7 @@ run:
 	@rt check weigher >&2
 	@target/bin/weigher
 
-test: compare examples
+test: compare examples outside
 	docs/check-proofs.sh
 	rt fmt --check
 	rt ci
@@ -35,6 +37,18 @@ examples: archive program
 	tests/protocol.sh
 	tests/c.sh
 	tests/rust.sh
+
+# The program from outside, some seconds each: connections where socat is there, and the faults.
+outside: program
+	@if command -v socat >/dev/null; then tests/connections.sh 60; else echo "socat is not installed: no connection is tried"; fi
+	@tests/faults.sh short
+
+connections: program
+	tests/connections.sh
+
+faults: program
+	tests/faults.sh full
+	tests/must-fail.sh
 
 bench: archive program
 	rt staticlib fast_fused_c
