@@ -11,13 +11,13 @@ use crate::values::{linear, uniform};
 
 /// So many that no branch predictor learns them: with 4,096 of them musl's branches were foreseen in part, and it took 17 ns and not 21.
 const OPERANDS: usize = 65536;
-const ROUNDS: usize = 100;
+const ROUNDS: usize = 300;
 
 /// Weights whose calls of fma are timed.
 const WEIGHTS: usize = 4096;
 
 /// Rounds of the score, each call of which takes longer.
-const SCORE_ROUNDS: usize = 12;
+const SCORE_ROUNDS: usize = 60;
 
 type Three = (u64, u64, u64);
 
