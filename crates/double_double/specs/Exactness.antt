@@ -8,7 +8,7 @@ use lib.IntN.{ℤ, pos, negℤ, _+ℤ_, _*ℤ_}
 use lib.Dec.{T}
 use lib.Ieee.{Float, nan, inf, fin, Format, binary64, low, up, down}
 use lib.Ieee.Scale.{finite}
-use Rattle.double_double.specs.declared.Pair.{Pair}
+use Rattle.pair.specs.declared.Pair.{Pair}
 
 -- the size in units of the format's smallest value; 0 for a NaN and an infinity
 abbrev pub magnitude : Format → Float → ℕ

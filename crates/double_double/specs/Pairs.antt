@@ -1,16 +1,9 @@
 -- The double-double helpers of exp2m1.rs over IEEE operations, with the source's operands and association. Definitions only.
-use Prim.Native.Nat.{ℕ}
-use lib.Ieee.{Float, binary64, add, sub, mul, neg, ofBits}
+use lib.Ieee.{Float, binary64, add, sub, mul, neg}
 use Rattle.rounding.specs.declared.Direction.the-variants.{Nearest}
 use Rattle.ieee754.specs.Operations.{fusedMultiplyAdd}
-use Rattle.double_double.specs.declared.Pair.{Pair}
-
-abbrev pub pair : Float → Float → Pair
-pair h l = record { hi = h; lo = l }
-
--- the float of a bit pattern
-abbrev pub bits : ℕ → Float
-bits b = ofBits binary64 b
+use Rattle.pair.specs.declared.Pair.{Pair}
+use Rattle.pair.specs.Pair.{pair}
 
 -- x * y + z, rounded once
 abbrev pub fma : Float → Float → Float → Float

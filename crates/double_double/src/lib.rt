@@ -3,15 +3,12 @@
 // Each function promises the pair that the definition of its name in specs/Pairs.antt gives for the same operands.
 // fast_two_sum and a_mul also promise where nothing is lost (specs/Exactness.antt). In a product lo stays a pattern until its last step.
 
+use pair::Pair;
 ghost use mathlib.Core.Path.{_≡_};
 ghost use lib.Ieee.{neg};
-ghost use Rattle.double_double.specs.Pairs.{bits, fma, fastTwoSum, fastSum, aMul, sMul, dMul};
+ghost use Rattle.pair.specs.Pair.{bits};
+ghost use Rattle.double_double.specs.Pairs.{fma, fastTwoSum, fastSum, aMul, sMul, dMul};
 ghost use Rattle.double_double.specs.Exactness.{SumExact, ProductExact};
-
-pub struct Pair {
-    pub hi: f64,
-    pub lo: f64,
-}
 
 // Add a + b, assuming |a| >= |b|.
 pub fn fast_two_sum(a: f64, b: f64) -> Pair

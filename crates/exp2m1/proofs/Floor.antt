@@ -21,7 +21,7 @@ use Rattle.rounding.specs.declared.Direction.the-variants.{Nearest, Down}
 use Rattle.rounding.specs.Rounding.{whole, bounded, roundTo}
 use Rattle.rounding.proofs.Place.{exact, Sits, whole-at, whole-exact}
 use Rattle.ieee754.specs.Operations.{roundToIntegral}
-use Rattle.double_double.specs.Pairs.{bits}
+use Rattle.pair.specs.Pair.{bits}
 use Rattle.double_double.proofs.Multiples.{coarser}
 use Rattle.double_double.proofs.Units.{has-finite}
 use Rattle.exponential.specs.Range.{Between, above, below, most, deepest}

@@ -9,7 +9,7 @@ use lib.Ieee.Bits.{toBits-ofBits, nanBits-is, nanBits-above}
 use borrow.Author.Tests.{le-leb, lt-leb, le-ltb, lt-ltb, ltb-true}
 use Rattle.rounding.specs.declared.Direction.the-variants.{Down}
 use Rattle.ieee754.specs.Operations.{roundToIntegral}
-use Rattle.double_double.specs.Pairs.{bits}
+use Rattle.pair.specs.Pair.{bits}
 use Rattle.exceptions.specs.declared.Stretch.the-variants.{First}
 use Rattle.exceptions.specs.Lookup.{find, orElse}
 use Rattle.exp2m1.specs.Phases.{zero, exp2m1Scaled, exp2m1TwoTerms, exp2m1Whole, exp2m1Fast, exp2m1Accurate}

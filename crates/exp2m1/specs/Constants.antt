@@ -1,6 +1,6 @@
 -- The constants of exp2m1.rs that its phases use, each by its bit pattern. Definitions only.
 use lib.Ieee.{Float}
-use Rattle.double_double.specs.Pairs.{bits}
+use Rattle.pair.specs.Pair.{bits}
 
 -- 2 ^ 106 and 2 ^ -106
 abbrev pub two106 : Float

@@ -6,8 +6,9 @@ use lib.Dec.{leb}
 use lib.Ieee.{Float, binary64, add, mul, neg, le, toBits, toSigned, toUnsigned, ofInt}
 use Rattle.rounding.specs.declared.Direction.the-variants.{Nearest}
 use Rattle.ieee754.specs.Operations.{scaleB}
-use Rattle.double_double.specs.declared.Pair.{Pair}
-use Rattle.double_double.specs.Pairs.{bits, pair, fma, fastTwoSum, aMul, sMul}
+use Rattle.pair.specs.declared.Pair.{Pair}
+use Rattle.pair.specs.Pair.{bits, pair}
+use Rattle.double_double.specs.Pairs.{fma, fastTwoSum, aMul, sMul}
 use Rattle.exceptions.specs.declared.Stretch.the-variants.{Wide}
 use Rattle.exceptions.specs.Lookup.{find, orElse}
 use Rattle.exponential.specs.Constants.{LN2H, LN2L}

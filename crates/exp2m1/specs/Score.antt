@@ -5,7 +5,7 @@ use lib.Dec.{leb, ltb, eqb}
 use lib.Ieee.{Float, binary64, add, sub, eq, le, toBits}
 use Rattle.rounding.specs.declared.Direction.the-variants.{Down}
 use Rattle.ieee754.specs.Operations.{roundToIntegral}
-use Rattle.double_double.specs.Pairs.{bits}
+use Rattle.pair.specs.Pair.{bits}
 use Rattle.exceptions.specs.declared.Stretch.the-variants.{First}
 use Rattle.exceptions.specs.Lookup.{find, orElse}
 use Rattle.exp2m1_tiny.specs.declared.Estimate.{Estimate}

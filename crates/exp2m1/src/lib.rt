@@ -3,7 +3,6 @@
 // score promises, for every 64-bit pattern, the pattern that scoreBits of specs/Score.antt gives: document 01's steps 1 to 8 over IEEE
 // operations. The phases promise the definitions of their names in specs/Phases.antt.
 
-use double_double::Pair;
 use double_double::a_mul;
 use double_double::fast_two_sum;
 use double_double::s_mul;
@@ -12,6 +11,7 @@ use exceptions::Stretch;
 use exp2m1_tiny::Estimate;
 use exponential::LN2H;
 use exponential::LN2L;
+use pair::Pair;
 ghost use mathlib.Core.Path.{_≡_};
 ghost use Prim.Native.Nat.{_%_, _^_, _<_};
 ghost use lib.Dec.{leb};

@@ -1,7 +1,8 @@
 -- The phases of exp2m1.rs for |x| <= 0.125 over IEEE operations, with the source's operands and association. Definitions only.
 use lib.Ieee.{Float, binary64, add, mul}
-use Rattle.double_double.specs.declared.Pair.{Pair}
-use Rattle.double_double.specs.Pairs.{bits, pair, fma, fastTwoSum, fastSum, aMul, sMul}
+use Rattle.pair.specs.declared.Pair.{Pair}
+use Rattle.pair.specs.Pair.{bits, pair}
+use Rattle.double_double.specs.Pairs.{fma, fastTwoSum, fastSum, aMul, sMul}
 use Rattle.exceptions.specs.declared.Stretch.the-variants.{Tiny}
 use Rattle.exceptions.specs.Lookup.{find, orElse}
 use Rattle.exp2m1_tiny.specs.declared.Estimate.{Estimate}

@@ -2,7 +2,6 @@
 //
 // Each function promises the definition of its name in specs/Tiny.antt, over the coefficients of specs/Coefficients.antt.
 
-use double_double::Pair;
 use double_double::a_mul;
 use double_double::fast_sum;
 use double_double::fast_two_sum;
@@ -12,8 +11,10 @@ use exceptions::Stretch;
 use math::fma_bits;
 use math::from_bits;
 use math::pattern;
+use pair::Pair;
 ghost use mathlib.Core.Path.{_≡_};
-ghost use Rattle.double_double.specs.Pairs.{bits, fma};
+ghost use Rattle.pair.specs.Pair.{bits};
+ghost use Rattle.double_double.specs.Pairs.{fma};
 ghost use Rattle.exp2m1_tiny.specs.Tiny.{degree4, hornerStep, exp2m1FastTiny, polynomialQ, exp2m1AccurateTiny};
 
 // A double-double approximation and the maximal corresponding absolute error.

@@ -18,7 +18,7 @@ use mir.Val.{ofZ, toZ}
 use mir.ValLaws.{toZ-ofZ}
 use Rattle.rounding.specs.declared.Direction.the-variants.{Nearest}
 use Rattle.ieee754.specs.Operations.{roundToIntegral}
-use Rattle.double_double.specs.Pairs.{bits}
+use Rattle.pair.specs.Pair.{bits}
 use Rattle.math.proofs.Shift.{integral}
 use Rattle.exponential.specs.Constants.{LN2H, INVLOG2}
 use Rattle.exponential.specs.Range.{Between, above, below, least, most, deepest, InRange, InLogRange, Index}

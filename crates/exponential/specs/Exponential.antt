@@ -7,8 +7,9 @@ use lib.ListN.{getD}
 use lib.Ieee.{Float, binary64, add, sub, mul, neg, toSigned}
 use Rattle.rounding.specs.declared.Direction.the-variants.{Nearest}
 use Rattle.ieee754.specs.Operations.{roundToIntegral}
-use Rattle.double_double.specs.declared.Pair.{Pair}
-use Rattle.double_double.specs.Pairs.{bits, pair, fma, fastTwoSum, fastSum, aMul, sMul, dMul}
+use Rattle.pair.specs.declared.Pair.{Pair}
+use Rattle.pair.specs.Pair.{bits, pair}
+use Rattle.double_double.specs.Pairs.{fma, fastTwoSum, fastSum, aMul, sMul, dMul}
 use Rattle.exponential.specs.Constants.{LN2H, LN2L, INVLOG2, LOG2H, LOG2L, Q1, Q2}
 use Rattle.power_tables.specs.Tables.{T1, T2, noPair}
 

@@ -3,7 +3,7 @@ use Prim.Native.Nat.{_≤_, _<_}
 use lib.IntN.{ℤ, pos, negsuc}
 use lib.Dec.{T}
 use lib.Ieee.{Float, binary64, le, neg, mul}
-use Rattle.double_double.specs.Pairs.{bits}
+use Rattle.pair.specs.Pair.{bits}
 use Rattle.exponential.specs.Constants.{LN2H}
 
 -- least ≤ x ≤ most, or least ≤ -x ≤ deepest

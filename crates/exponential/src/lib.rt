@@ -1,10 +1,9 @@
 // The double-double exponentials of exp2m1: exp_1 for the fast phase, exp_2 for the accurate one.
 //
 // Each function promises the pair that the definition of its name in specs/Exponential.antt gives for the same operands, over the tables of
-// the crate power_entries and the constants of specs/Constants.antt. exp_1 and exp_2 ask for arguments in the range of specs/Range.antt, from
+// the crate power_tables and the constants of specs/Constants.antt. exp_1 and exp_2 ask for arguments in the range of specs/Range.antt, from
 // which it follows that the casts of k lose nothing and that its exponent word is at most 0x7ff.
 
-use double_double::Pair;
 use double_double::a_mul;
 use double_double::d_mul;
 use double_double::fast_sum;
@@ -13,6 +12,7 @@ use double_double::s_mul;
 use math::fma_bits;
 use math::from_bits;
 use math::pattern;
+use pair::Pair;
 ghost use mathlib.Core.Path.{_≡_};
 ghost use Prim.Native.Nat.{_≤_};
 ghost use Rattle.exponential.specs.Exponential.{q1, q2, i1, i2, exponentWord, scaled, timesPower, exp1, exp2};
@@ -73,7 +73,7 @@ fn times_power(k: i64, q: Pair) -> Pair
 {
     let i2 = bits_6_to_11(k);
     let i1 = bits_0_to_5(k);
-    let p = d_mul(power_entries::t2_at(i1), power_entries::t1_at(i2));
+    let p = d_mul(fine_powers::t2_at(i1), coarse_powers::t1_at(i2));
     scale(d_mul(p, q), exponent_word(k))
 }
 

@@ -1,8 +1,8 @@
 -- The tables of exp2m1.rs: double-double approximations of powers of two. Definitions only.
 use mathlib.Core.List.{List, [], _∷_}
 use lib.Ieee.{nan}
-use Rattle.double_double.specs.declared.Pair.{Pair}
-use Rattle.double_double.specs.Pairs.{bits, pair}
+use Rattle.pair.specs.declared.Pair.{Pair}
+use Rattle.pair.specs.Pair.{bits, pair}
 
 -- 2 ^ (i / 64)
 unfoldable pub T1 : List Pair

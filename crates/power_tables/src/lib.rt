@@ -3,7 +3,7 @@
 
 mod tables;
 
-use double_double::Pair;
+use pair::Pair;
 use tables::T1;
 use tables::T2;
 ghost use mathlib.Core.Path.{_≡_};

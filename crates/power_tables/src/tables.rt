@@ -1,4 +1,4 @@
-use double_double::Pair;
+use pair::Pair;
 
 // For 0 <= i < 64, T1[i] = (h,l) such that h+l is the best double-double approximation of 2^(i/64).
 pub const T1: [Pair; 64] = [

@@ -3,7 +3,8 @@ use mathlib.Core.Path.{_≡_, refl, sym, subst}
 use lib.Dec.{T}
 use lib.Ieee.{Float, binary64, mul, neg}
 use borrow.Author.Needs.{needs}
-use Rattle.double_double.specs.Pairs.{pair, fma, aMul}
+use Rattle.pair.specs.Pair.{pair}
+use Rattle.double_double.specs.Pairs.{fma, aMul}
 use Rattle.double_double.specs.Exactness.{ProductExact}
 use Rattle.double_double.proofs.TwoProduct.{a-mul-exact}
 use Rattle.double_double.proofs.a_mul.Statement.{statement}

@@ -2,8 +2,9 @@
 use mathlib.Core.Path.{_≡_}
 use lib.Ieee.{Float, binary64, add}
 use borrow.Author.Needs.{needs}
-use Rattle.double_double.specs.declared.Pair.{Pair}
-use Rattle.double_double.specs.Pairs.{pair, fastTwoSum, fastSum}
+use Rattle.pair.specs.declared.Pair.{Pair}
+use Rattle.pair.specs.Pair.{pair}
+use Rattle.double_double.specs.Pairs.{fastTwoSum, fastSum}
 use Rattle.double_double.proofs.fast_sum.Statement.{statement}
 use Rattle.double_double.proofs.fast_sum.Tie as tie
 

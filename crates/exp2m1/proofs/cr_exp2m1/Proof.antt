@@ -7,7 +7,7 @@ use lib.Ieee.{Float, nan, binary64, add, eq, le, ofBits, toBits, nanBits, fits}
 use lib.Ieee.Fits.{and-r}
 use Rattle.rounding.specs.declared.Direction.the-variants.{Down}
 use Rattle.ieee754.specs.Operations.{roundToIntegral}
-use Rattle.double_double.specs.Pairs.{bits}
+use Rattle.pair.specs.Pair.{bits}
 use Rattle.exp2m1.specs.Range.{Bounded, Whole}
 use Rattle.exp2m1.specs.Phases.{exp2m1Scaled, exp2m1Whole}
 use Rattle.exp2m1.specs.Score.{isWhole, steps}

@@ -4,7 +4,7 @@ use Prim.Native.Nat.{ℕ, _%_, _^_, _≤_, _<_}
 use lib.Dec.{T}
 use lib.Ieee.{Float, binary64, add, toBits}
 use borrow.Author.Tests.{le-leb, lt-leb}
-use Rattle.double_double.specs.declared.Pair.{Pair}
+use Rattle.pair.specs.declared.Pair.{Pair}
 use Rattle.exceptions.specs.declared.Stretch.the-variants.{Wide}
 use Rattle.exceptions.specs.Lookup.{find, orElse}
 use Rattle.exponential.specs.Exponential.{exp2}

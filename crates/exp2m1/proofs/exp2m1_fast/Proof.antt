@@ -5,8 +5,9 @@ use Prim.Native.Nat.{_%_, _^_}
 use lib.Dec.{T, leb}
 use lib.Ieee.{Float, binary64, mul, toBits, fits}
 use borrow.Author.Tests.{leb-false}
-use Rattle.double_double.specs.declared.Pair.{Pair}
-use Rattle.double_double.specs.Pairs.{bits, pair, aMul, sMul}
+use Rattle.pair.specs.declared.Pair.{Pair}
+use Rattle.pair.specs.Pair.{bits, pair}
+use Rattle.double_double.specs.Pairs.{aMul, sMul}
 use Rattle.exponential.specs.Constants.{LN2H, LN2L}
 use Rattle.exponential.specs.Exponential.{exp1}
 use Rattle.exponential.specs.Range.{InLogRange}

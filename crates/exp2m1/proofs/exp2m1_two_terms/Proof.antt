@@ -2,7 +2,7 @@
 use mathlib.Core.Path.{_≡_}
 use lib.Ieee.{Float, binary64, add, mul}
 use borrow.Author.Needs.{needs}
-use Rattle.double_double.specs.declared.Pair.{Pair}
+use Rattle.pair.specs.declared.Pair.{Pair}
 use Rattle.double_double.specs.Pairs.{fma, aMul}
 use Rattle.exponential.specs.Constants.{LN2H, LN2L}
 use Rattle.exp2m1.specs.Constants.{C2}

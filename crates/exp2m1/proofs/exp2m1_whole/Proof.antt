@@ -17,7 +17,7 @@ use mir.Val.{ofZ, toZ}
 use mir.ValLaws.{toZ-ofZ}
 use Rattle.rounding.specs.declared.Direction.the-variants.{Nearest}
 use Rattle.ieee754.specs.Operations.{scaleB}
-use Rattle.double_double.specs.Pairs.{bits}
+use Rattle.pair.specs.Pair.{bits}
 use Rattle.exp2m1.specs.Range.{Whole, natural, negative}
 use Rattle.exp2m1.specs.Phases.{zero, exp2m1Whole}
 use borrow.Author.Needs.{needs}

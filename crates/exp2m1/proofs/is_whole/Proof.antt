@@ -7,7 +7,7 @@ use lib.Ieee.{Float, eq, le}
 use borrow.Author.Tests.{eq-eqb, ne-eqb}
 use Rattle.rounding.specs.declared.Direction.the-variants.{Down}
 use Rattle.ieee754.specs.Operations.{roundToIntegral}
-use Rattle.double_double.specs.Pairs.{bits}
+use Rattle.pair.specs.Pair.{bits}
 use Rattle.exp2m1.specs.Score.{isWhole}
 use borrow.Author.Needs.{needs}
 use Rattle.exp2m1.proofs.is_whole.Statement.{statement}

@@ -2,7 +2,8 @@
 use mathlib.Core.Path.{_≡_}
 use Prim.Native.Nat.{ℕ}
 use lib.Ieee.{Float, binary64, mul}
-use Rattle.double_double.specs.Pairs.{bits, fma}
+use Rattle.pair.specs.Pair.{bits}
+use Rattle.double_double.specs.Pairs.{fma}
 use Rattle.exp2m1_tiny.specs.Coefficients.{P}
 use borrow.Author.Needs.{needs}
 use Rattle.exp2m1_tiny.specs.Tiny.{degree4}

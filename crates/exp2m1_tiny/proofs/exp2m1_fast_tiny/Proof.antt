@@ -1,8 +1,9 @@
 -- `exp2m1_tiny::exp2m1_fast_tiny` meets its contract: one equation for each call. Assumes nothing.
 use mathlib.Core.Path.{_≡_}
 use lib.Ieee.{Float, binary64, mul}
-use Rattle.double_double.specs.declared.Pair.{Pair}
-use Rattle.double_double.specs.Pairs.{bits, fastSum, aMul, sMul}
+use Rattle.pair.specs.declared.Pair.{Pair}
+use Rattle.pair.specs.Pair.{bits}
+use Rattle.double_double.specs.Pairs.{fastSum, aMul, sMul}
 use Rattle.exp2m1_tiny.specs.Coefficients.{P}
 use Rattle.exp2m1_tiny.specs.Tiny.{estimate, degree4, hornerStep, exp2m1FastTiny}
 use borrow.Author.Needs.{needs}

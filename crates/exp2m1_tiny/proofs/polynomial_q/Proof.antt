@@ -1,8 +1,9 @@
 -- `exp2m1_tiny::polynomial_q` meets its contract: one equation for each call. Assumes nothing.
 use mathlib.Core.Path.{_≡_}
 use lib.Ieee.{Float, binary64, add, mul}
-use Rattle.double_double.specs.declared.Pair.{Pair}
-use Rattle.double_double.specs.Pairs.{pair, fma, fastTwoSum, sMul}
+use Rattle.pair.specs.declared.Pair.{Pair}
+use Rattle.pair.specs.Pair.{pair}
+use Rattle.double_double.specs.Pairs.{fma, fastTwoSum, sMul}
 use Rattle.exp2m1_tiny.specs.Coefficients.{Q}
 use Rattle.exp2m1_tiny.specs.Tiny.{hornerStep, polynomialQ}
 use borrow.Author.Needs.{needs}

@@ -5,8 +5,9 @@ use lib.Ieee.{Float, binary64, sub, mul, toSigned}
 use borrow.Author.Needs.{needs}
 use Rattle.rounding.specs.declared.Direction.the-variants.{Nearest}
 use Rattle.ieee754.specs.Operations.{roundToIntegral}
-use Rattle.double_double.specs.declared.Pair.{Pair}
-use Rattle.double_double.specs.Pairs.{pair, sMul, fastTwoSum}
+use Rattle.pair.specs.declared.Pair.{Pair}
+use Rattle.pair.specs.Pair.{pair}
+use Rattle.double_double.specs.Pairs.{sMul, fastTwoSum}
 use Rattle.exponential.specs.Constants.{INVLOG2, LOG2H, LOG2L}
 use Rattle.exponential.specs.Exponential.{q1, timesPower, exp1}
 use Rattle.exponential.specs.Range.{InLogRange}

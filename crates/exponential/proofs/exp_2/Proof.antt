@@ -5,8 +5,9 @@ use lib.Ieee.{Float, binary64, mul, neg, toSigned}
 use borrow.Author.Needs.{needs}
 use Rattle.rounding.specs.declared.Direction.the-variants.{Nearest}
 use Rattle.ieee754.specs.Operations.{roundToIntegral}
-use Rattle.double_double.specs.declared.Pair.{Pair}
-use Rattle.double_double.specs.Pairs.{bits, pair, fma, sMul}
+use Rattle.pair.specs.declared.Pair.{Pair}
+use Rattle.pair.specs.Pair.{bits, pair}
+use Rattle.double_double.specs.Pairs.{fma, sMul}
 use Rattle.exponential.specs.Constants.{LN2H, LN2L}
 use Rattle.exponential.specs.Exponential.{q2, timesPower, exp2}
 use Rattle.exponential.specs.Range.{InRange}

@@ -2,8 +2,9 @@
 use mathlib.Core.Path.{_≡_}
 use lib.Ieee.{Float, binary64, add}
 use borrow.Author.Needs.{needs}
-use Rattle.double_double.specs.declared.Pair.{Pair}
-use Rattle.double_double.specs.Pairs.{pair, fma, fastTwoSum, fastSum, aMul, dMul}
+use Rattle.pair.specs.declared.Pair.{Pair}
+use Rattle.pair.specs.Pair.{pair}
+use Rattle.double_double.specs.Pairs.{fma, fastTwoSum, fastSum, aMul, dMul}
 use Rattle.exponential.specs.Constants.{Q2}
 use Rattle.exponential.specs.Exponential.{q2}
 use Rattle.exponential.proofs.q_2.Statement.{statement}

@@ -9,7 +9,7 @@ use mir.Syntax.{w64}
 use mir.Val.{ofZ, toZ}
 use mir.ValLaws.{toZ-ofZ}
 use borrow.Author.Needs.{needs}
-use Rattle.double_double.specs.declared.Pair.{Pair}
+use Rattle.pair.specs.declared.Pair.{Pair}
 use Rattle.double_double.specs.Pairs.{dMul}
 use Rattle.power_tables.specs.Tables.{T1, T2, noPair}
 use Rattle.exponential.specs.Exponential.{i1, i2, exponentWord, scaled, timesPower}

@@ -1,0 +1,2 @@
+-- Pairs and floats as the definitions write them.
+pub mod Pair

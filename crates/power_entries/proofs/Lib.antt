@@ -1,2 +1,0 @@
--- What the accessors of the tables share.
-mod Arms

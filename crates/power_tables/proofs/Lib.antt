@@ -1,0 +1,2 @@
+-- What the readers of the tables share.
+pub mod Arms
