@@ -7,3 +7,4 @@ pub mod Units
 pub mod TwoSum
 pub mod Nearest
 pub mod TwoProduct
+pub mod Chains
