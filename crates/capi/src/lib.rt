@@ -9,7 +9,7 @@ ghost use Rattle.exp2m1.specs.Score.{scoreBits};
 pub extern "C" fn weigher_fused(a: u64, b: u64, c: u64) -> u64
     ensures { λ r. ⌜ r ≡ fusedBits Nearest a b c ⌝ }
 {
-    ieee754::fused(a, b, c)
+    multiply_add::fused(a, b, c)
 }
 
 // The nearest whole number, a tie to the even one.
@@ -17,7 +17,7 @@ pub extern "C" fn weigher_fused(a: u64, b: u64, c: u64) -> u64
 pub extern "C" fn weigher_round(x: u64) -> u64
     ensures { λ r. ⌜ r ≡ roundBits x ⌝ }
 {
-    ieee754::round(x)
+    integral::round(x)
 }
 
 // The greatest whole number not above x.
@@ -25,7 +25,7 @@ pub extern "C" fn weigher_round(x: u64) -> u64
 pub extern "C" fn weigher_floor(x: u64) -> u64
     ensures { λ r. ⌜ r ≡ floorBits x ⌝ }
 {
-    ieee754::floor(x)
+    integral::floor(x)
 }
 
 // x × 2^n, rounded once.
@@ -33,7 +33,7 @@ pub extern "C" fn weigher_floor(x: u64) -> u64
 pub extern "C" fn weigher_scale(x: u64, n: i32) -> u64
     ensures { λ r. ⌜ r ≡ scaleBits x n ⌝ }
 {
-    ieee754::scale(x, n)
+    scaling::scale(x, n)
 }
 
 // 2^x - 1, the score of the weight x.

@@ -3,7 +3,7 @@ use mathlib.Core.Path.{_≡_}
 use mathlib.Core.Logic.{_≢_, _⊎_}
 use Prim.Native.Nat.{ℕ, _+_, _/_, _≤_, _<_}
 use mathlib.Core.Bool.{Bool}
-use Rattle.ieee754.specs.declared.parts.Parts.{Parts}
+use Rattle.ieee754.specs.declared.Parts.{Parts}
 use Rattle.ieee754.specs.Machine.{magnitude, Normal}
 
 -- the exponent field

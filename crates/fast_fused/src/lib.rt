@@ -1,6 +1,6 @@
 // Fused multiply-add once more, quick where the exponents are near each other: the product and c then lie in two words with all their
 // digits, and neither is shifted down; and quick where the product is small beside c: then nothing cancels, and one word will do. All
-// other operands are handed to `ieee754::fused`.
+// other operands are handed to `multiply_add::fused`.
 ghost use mathlib.Core.Path.{_≡_};
 ghost use mathlib.Core.Bool.{true};
 ghost use Prim.Native.Nat.{ℕ, _+_, _-_, _*_, _^_, _≤_, _<_};
@@ -10,10 +10,10 @@ ghost use Rattle.rounding.specs.declared.Direction.the-variants.{Nearest};
 ghost use Rattle.ieee754.specs.Operations.{sumTo, fusedBits};
 ghost use Rattle.ieee754.specs.Machine.{Reads, Summands, RoundsSum};
 ghost use Rattle.fast_fused.specs.Machine.{fieldOf, Near, NearParts, Small, SmallParts, SumOf};
-use ieee754::parts::Parts;
-use ieee754::parts::negative;
-use ieee754::parts::pick_sign;
-use ieee754::parts::unlike_signs;
+use ieee754::Parts;
+use ieee754::negative;
+use ieee754::pick_sign;
+use ieee754::unlike_signs;
 use rounding::Direction;
 use rounding::LEADING;
 use rounding::SIGN;
@@ -218,7 +218,7 @@ pub fn fused(a: u64, b: u64, c: u64) -> u64
         if is_small(x, y, z) {
             fused_small(a, b, c)
         } else {
-            ieee754::fused(a, b, c)
+            multiply_add::fused(a, b, c)
         }
     }
 }

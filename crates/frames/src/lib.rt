@@ -55,7 +55,7 @@ fn result_at(kind: u8, payload: &[u8], at: usize) -> u64
     let a = words::read_u64(payload, at);
     let b = words::read_u64(payload, at + 8);
     let c = words::read_u64(payload, at + 16);
-    ieee754::fused(a, b, c)
+    multiply_add::fused(a, b, c)
 }
 
 // Writes the results of the first n items of a payload.

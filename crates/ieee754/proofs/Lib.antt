@@ -1,9 +1,3 @@
--- What the functions compute, over plain numbers, by subject.
+-- What a pattern is read as, which the operations share, and worked examples of the definitions.
 pub mod Reading
-pub mod Sums
-pub mod Products
-mod Special
-mod WholeNumbers
-mod Powers
-mod Exponent
 mod Examples

@@ -1,4 +1,4 @@
--- What a bit pattern is read as: a NaN, an infinity, a zero, or q units of 2 ^ k; and what those are as patterns. Assumes nothing.
+-- What a bit pattern is read as: a NaN, an infinity, a zero, or q units of 2 ^ k; what those are as patterns, and as the rounding takes them. Assumes nothing.
 use mathlib.Core.Path.{_≡_, refl, sym, ap, ap₂, _∙_, subst}
 use mathlib.Core.Logic.{_⊎_, inl, inr, ⊎-elim}
 use Prim.Native.Nat.{ℕ, zero, suc, _+_, _-_, _*_, _/_, _%_, _^_, _≤_, _<_}
@@ -12,13 +12,14 @@ use borrow.Author.Tests.{eq-eqb, ne-eqb, le-leb, lt-leb, lt-ltb}
 use lib.Ieee.{Float, nan, inf, fin, binary64, up, down, odd, ofFields, ofBits, toBits}
 use lib.Ieee.Exact.{HasValue, odd-sign}
 use Rattle.wide.proofs.Nat.{le-or-gt}
+use Rattle.wide.proofs.Sticky.{just, jam-is}
 use Rattle.rounding.specs.declared.Direction.{Direction}
 use Rattle.rounding.specs.Rounding.{roundTo}
-use Rattle.rounding.specs.Machine.{signBit, overflowBits, packed}
+use Rattle.rounding.specs.Machine.{signBit, overflowBits, packed, Stands}
 use Rattle.rounding.proofs.Place.{exact, Sits, wholeAt, whole-exact}
 use Rattle.rounding.proofs.Rounding.{bits-at}
 use Rattle.ieee754.specs.Machine.{signOf, magnitude, Normal, Reads}
-use Rattle.ieee754.specs.declared.parts.Parts.{Parts}
+use Rattle.ieee754.specs.declared.Parts.{Parts}
 
 ofBits-is : (b : ℕ) → ofBits binary64 b ≡ ofFields binary64 (signOf b) (magnitude b / 0x10000000000000) (b % 0x10000000000000)
 unfolding ofBits
@@ -193,3 +194,9 @@ reads-mid b x p f h em ee =
       value = subst (λ (y : ℕ). HasValue (ofBits binary64 b) (signOf b) y (2 ^ 1126)) (mul-assoc (0x10000000000000 + b % 0x10000000000000) (2 ^ x) (2 ^ 52) ∙ ap₂ (λ (y z : ℕ). y * z) (sym em) (sym (pow-add 2 x 52) ∙ ap (λ (y : ℕ). 2 ^ y) (sym ee)))
           (finer (ofBits binary64 b) (signOf b) ((0x10000000000000 + b % 0x10000000000000) * 2 ^ x) (2 ^ 1074) (2 ^ 52) (u .value));
     }
+
+-- ---- in units of 2 ^ -2273
+
+-- a number with no sticky bit, as `round_wide` takes it
+pub stands-just : {A d w e : ℕ} → 0 < d → A * 2 ^ 2273 ≡ w * 2 ^ e * d → Stands 2273 A d w e
+stands-just {A} {d} {w} {e} D p = record { size = w * 2 ^ e; den-pos = D; same = p; cut = jam-is (pow-pos e) (just refl) }

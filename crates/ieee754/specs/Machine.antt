@@ -1,4 +1,5 @@
--- What the functions of this crate say of each other. Nothing here is part of what an operation means. Definitions only.
+-- What the functions of this crate, and of the crates that compute the operations, say of each other. Nothing here is part of what an
+-- operation means. Definitions only.
 use mathlib.Core.Path.{_≡_}
 use mathlib.Core.Logic.{_⊎_}
 use Prim.Native.Nat.{ℕ, _+_, _-_, _*_, _%_, _^_, _≤_, _<_}
@@ -10,7 +11,7 @@ use lib.Ieee.Exact.{HasValue}
 use Rattle.rounding.specs.declared.Direction.{Direction}
 use Rattle.rounding.specs.Machine.{signBit, Stands, Rounds}
 use Rattle.ieee754.specs.Operations.{zeroSign}
-use Rattle.ieee754.specs.declared.parts.Parts.{Parts}
+use Rattle.ieee754.specs.declared.Parts.{Parts}
 
 -- ---- patterns
 

@@ -1,40 +1,76 @@
-// The operations of IEEE 754-2019 on binary64 that the language lacks: fused multiply-add, rounding to a whole number,
-// floor and scaling by a power of two, on 64-bit patterns. Every call is total, and its contract is an equation with
-// the definition of the operation in specs/Operations.antt. A NaN result is always 0x7ff8000000000000.
+// What the operations of IEEE 754-2019 on binary64 that the language lacks have in common. specs/Operations.antt defines
+// all of them; the crates `multiply_add`, `integral` and `scaling` compute them. The code here takes a 64-bit pattern as
+// a sign, and as a significand and an exponent.
 ghost use mathlib.Core.Path.{_≡_};
-ghost use Rattle.rounding.specs.declared.Direction.the-variants.{Nearest};
-ghost use Rattle.ieee754.specs.Operations.{fusedBits, roundBits, floorBits, scaleBits};
-use rounding::Direction;
+ghost use mathlib.Core.Bool.{true, cond};
+ghost use Prim.Native.Nat.{_+_, _*_, _^_, _<_};
+ghost use lib.Ieee.{unlike};
+ghost use Rattle.ieee754.specs.Machine.{signOf, Regular, Normal, Reads};
+use rounding::INFINITY;
+use rounding::LEADING;
+use rounding::SIGN;
 
-pub mod integral;
-pub mod multiply_add;
-pub mod parts;
-pub mod scaling;
+// The pattern that every NaN result has.
+pub const NAN: u64 = 0x7ff8000000000000;
 
-// a * b + c, rounded once to nearest.
-pub fn fused(a: u64, b: u64, c: u64) -> u64
-    ensures { λ r. ⌜ r ≡ fusedBits Nearest a b c ⌝ }
-{
-    multiply_add::fused_in(Direction::Nearest, a, b, c)
+// A finite number that is not zero, without its sign: m * 2^e in units of 2^-1126, with m of 53 digits.
+pub struct Parts {
+    pub m: u64,
+    pub e: u64,
 }
 
-// x as a whole number: the nearest, a tie to the even one.
-pub fn round(x: u64) -> u64
-    ensures { λ r. ⌜ r ≡ roundBits x ⌝ }
+pub fn negative(b: u64) -> bool
+    ensures { λ r. ⌜ r ≡ signOf b ⌝ }
 {
-    integral::integral_in(Direction::Nearest, x)
+    SIGN <= b
 }
 
-// The greatest whole number not above x.
-pub fn floor(x: u64) -> u64
-    ensures { λ r. ⌜ r ≡ floorBits x ⌝ }
+// Whether a product of the two is negative.
+pub fn unlike_signs(a: u64, b: u64) -> bool
+    ensures { λ r. ⌜ r ≡ unlike (signOf a) (signOf b) ⌝ }
 {
-    integral::integral_in(Direction::Down, x)
+    negative(a) != negative(b)
 }
 
-// x * 2^n, rounded once to nearest.
-pub fn scale(x: u64, n: i32) -> u64
-    ensures { λ r. ⌜ r ≡ scaleBits x n ⌝ }
+// One of two signs, by a conditional move.
+pub fn pick_sign(b: bool, x: bool, y: bool) -> bool
+    ensures { λ r. ⌜ r ≡ cond b x y ⌝ }
 {
-    scaling::scale_by(x, n)
+    if b { x } else { y }
+}
+
+// Whether b is finite and not zero.
+pub fn is_regular(b: u64) -> bool
+    ensures { λ r. ⌜ (r ≡ true → Regular b) × (Regular b → r ≡ true) ⌝ }
+{
+    let size = b % SIGN;
+    if size == 0 { false } else { size < INFINITY }
+}
+
+// The fraction of a subnormal number, shifted up to 53 digits.
+fn read_subnormal(fraction: u64) -> Parts
+    requires { ⌜ (0 < fraction) × (fraction < 2 ^ 52) ⌝ }
+    ensures { λ r. ⌜ Normal r × (r .m * 2 ^ r .e ≡ fraction * 2 ^ 52) ⌝ }
+{
+    let z = u64::leading_zeros(fraction) as u64 - 11;
+    Parts {
+        m: fraction << z,
+        e: 52 - z,
+    }
+}
+
+pub fn read(b: u64) -> Parts
+    requires { ⌜ Regular b ⌝ }
+    ensures { λ r. ⌜ Reads b r ⌝ }
+{
+    let field = b % SIGN / LEADING;
+    let fraction = b % LEADING;
+    if field == 0 {
+        read_subnormal(fraction)
+    } else {
+        Parts {
+            m: LEADING + fraction,
+            e: field + 51,
+        }
+    }
 }

@@ -1,4 +1,5 @@
-// Runs the vectors of standard input through the four operations of ieee754: a line for each failure, and then the count.
+// Runs the vectors of standard input through the four operations that ieee754 defines: a line for each failure, and
+// then the count.
 //
 // A vector is `fused A B C WANT`, `round X WANT`, `floor X WANT` or `scale X N WANT`. Floats are bit patterns, and N is the
 // two's complement of 32 bits.
@@ -28,25 +29,25 @@ fn answer(line: &[u8]) -> Answer {
     let v = numbers.values;
     if count == 4 && check::same(name, b"fused") {
         return Answer::Found {
-            got: ieee754::fused(v[0], v[1], v[2]),
+            got: multiply_add::fused(v[0], v[1], v[2]),
             want: v[3],
         };
     }
     if count == 3 && v[1] < 4294967296 && check::same(name, b"scale") {
         return Answer::Found {
-            got: ieee754::scale(v[0], signed(v[1])),
+            got: scaling::scale(v[0], signed(v[1])),
             want: v[2],
         };
     }
     if count == 2 && check::same(name, b"round") {
         return Answer::Found {
-            got: ieee754::round(v[0]),
+            got: integral::round(v[0]),
             want: v[1],
         };
     }
     if count == 2 && check::same(name, b"floor") {
         return Answer::Found {
-            got: ieee754::floor(v[0]),
+            got: integral::floor(v[0]),
             want: v[1],
         };
     }

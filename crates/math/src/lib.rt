@@ -1,10 +1,10 @@
-// The operations of the crate ieee754 on f64, under the names of the math module that the port follows. Every call is
-// total, and its contract is an equation with the definition of the operation in ieee754's specs/Operations.antt.
+// The operations that the crate ieee754 defines, on f64, under the names of the math module that the port follows. Every
+// call is total, and its contract is an equation with the definition of the operation in ieee754's specs/Operations.antt.
 ghost use mathlib.Core.Path.{_≡_};
 ghost use lib.Ieee.{toBits, ofBits, binary64};
 ghost use Rattle.rounding.specs.declared.Direction.the-variants.{Nearest, Down};
 ghost use Rattle.ieee754.specs.Operations.{fusedMultiplyAdd, roundToIntegral, scaleB};
-use ieee754::parts::NAN;
+use ieee754::NAN;
 use rounding::INFINITY;
 use rounding::SIGN;
 
@@ -66,19 +66,19 @@ pub fn roundeven(x: f64) -> f64
             }
         }
     }
-    from_bits(ieee754::round(to_bits(x)))
+    from_bits(integral::round(to_bits(x)))
 }
 
 // The greatest whole number not above x.
 pub fn floor(x: f64) -> f64
     ensures { λ r. ⌜ r ≡ roundToIntegral Down x ⌝ }
 {
-    from_bits(ieee754::floor(to_bits(x)))
+    from_bits(integral::floor(to_bits(x)))
 }
 
 // x * 2^n, rounded once to nearest.
 pub fn ldexp(x: f64, n: i32) -> f64
     ensures { λ r. ⌜ r ≡ scaleB Nearest x n ⌝ }
 {
-    from_bits(ieee754::scale(to_bits(x), n))
+    from_bits(scaling::scale(to_bits(x), n))
 }

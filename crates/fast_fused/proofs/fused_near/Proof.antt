@@ -11,7 +11,7 @@ use native.Mathlib.Omega.{arith}
 use Rattle.wide.specs.Words.{value}
 use Rattle.rounding.specs.declared.Direction.the-variants.{Nearest}
 use Rattle.ieee754.specs.Machine.{signOf}
-use Rattle.ieee754.proofs.Products.{fused-is, exact-sum}
+use Rattle.multiply_add.proofs.Products.{fused-is, exact-sum}
 use Rattle.fast_fused.specs.Machine.{SumOf}
 use Rattle.fast_fused.proofs.NearSums.{near-answer}
 use Rattle.fast_fused.proofs.fused_near.Statement.{statement}

@@ -8,7 +8,7 @@ use native.Mathlib.Omega.{arith}
 use Rattle.rounding.specs.declared.Direction.the-variants.{Nearest}
 use Rattle.ieee754.specs.Operations.{sumTo}
 use Rattle.ieee754.specs.Machine.{signOf, Normal}
-use Rattle.ieee754.proofs.Products.{fused-is, exact-sum, product-parts, addend-parts}
+use Rattle.multiply_add.proofs.Products.{fused-is, exact-sum, product-parts, addend-parts}
 use Rattle.fast_fused.specs.Machine.{SmallParts}
 use Rattle.fast_fused.proofs.SmallProducts.{small-lt, summands}
 use Rattle.fast_fused.proofs.fused_small.Statement.{statement}

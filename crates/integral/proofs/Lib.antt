@@ -1,0 +1,2 @@
+-- What the functions compute, over plain numbers.
+mod WholeNumbers

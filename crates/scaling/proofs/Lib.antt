@@ -1,0 +1,3 @@
+-- What the functions compute, over plain numbers, by subject.
+mod Powers
+mod Exponent

@@ -1,0 +1,60 @@
+// Scaling by a power of two, on 64-bit patterns. The public call is total, and its contract is an equation with
+// `scaleBits` of ieee754's specs/Operations.antt. A NaN result is always 0x7ff8000000000000.
+//
+// Exponents past those of every result are brought to a bound, whose rounding is the same.
+ghost use mathlib.Core.Path.{_≡_};
+ghost use Prim.Native.Nat.{_≤_};
+ghost use Rattle.ieee754.specs.Machine.{Regular, scaledExponent};
+ghost use Rattle.ieee754.specs.Operations.{scaleBits};
+use ieee754::NAN;
+use ieee754::negative;
+use ieee754::read;
+use rounding::Direction;
+use rounding::INFINITY;
+use rounding::SIGN;
+use rounding::round_pack;
+
+// The exponent of a significand in units of 2^-2337, from e in units of 2^-1126 and 11 digits fewer.
+fn scaled_exponent(e: u64, n: i32) -> u64
+    requires { ⌜ e ≤ 2097 ⌝ }
+    ensures { λ r. ⌜ r ≡ scaledExponent e n ⌝ }
+{
+    if n < 0 {
+        let k = (-1 - n) as u64;
+        if e + 1199 < k { 0 } else { e + 1199 - k }
+    } else {
+        let k = n as u64;
+        if 4000 < e + k + 1200 {
+            4000
+        } else {
+            e + k + 1200
+        }
+    }
+}
+
+fn scale_regular(x: u64, n: i32) -> u64
+    requires { ⌜ Regular x ⌝ }
+    ensures { λ r. ⌜ r ≡ scaleBits x n ⌝ }
+{
+    let neg = negative(x);
+    let p = read(x);
+    let e = scaled_exponent(p.e, n);
+    round_pack(Direction::Nearest, neg, p.m * 2048, e)
+}
+
+// x * 2^n, rounded once to nearest.
+pub fn scale(x: u64, n: i32) -> u64
+    ensures { λ r. ⌜ r ≡ scaleBits x n ⌝ }
+{
+    let m = x % SIGN;
+    if INFINITY < m {
+        return NAN;
+    }
+    if m == INFINITY {
+        return x;
+    }
+    if m == 0 {
+        return x;
+    }
+    scale_regular(x, n)
+}
