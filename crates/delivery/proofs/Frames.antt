@@ -9,9 +9,10 @@ use borrow.Rule.Slice.PartMut.{putMid}
 use Rattle.words.specs.Bytes.{numberAt}
 use Rattle.words.proofs.Numbers.{pair}
 use Rattle.words.proofs.Parts.{put-behind}
-use Rattle.frames.specs.Frame.{answerRoom, bodyLength, answerTo, answerOf}
-use Rattle.frames.specs.Written.{Written}
-use Rattle.frames.specs.declared.Answered.{Answered}
+use Rattle.frames.specs.Frame.{answerRoom, bodyLength}
+use Rattle.answers.specs.Answers.{answerTo, answerOf}
+use Rattle.answers.specs.Written.{Written}
+use Rattle.answers.specs.declared.Answered.{Answered}
 use Rattle.service.specs.Book.{Entry, Moved, emptyBook, move, oneMore, settled, answeredBy, bookTake}
 use Rattle.service.proofs.Simulation.{move-whole, move-on}
 use Rattle.service.proofs.Partition.{prefix-short, exact-is-whole}

@@ -7,8 +7,10 @@ ghost use mathlib.Core.Path.{_≡_};
 ghost use mathlib.Core.Bool.{false};
 ghost use Prim.Native.Nat.{_≤_};
 ghost use lib.ListN.{length};
-ghost use Rattle.frames.specs.Frame.{answerRoom, whole, answerTo};
-ghost use Rattle.frames.specs.Written.{Written, Body};
+ghost use Rattle.frames.specs.Frame.{answerRoom, whole};
+ghost use Rattle.frames.specs.Body.{Body};
+ghost use Rattle.answers.specs.Answers.{answerTo};
+ghost use Rattle.answers.specs.Written.{Written};
 ghost use Rattle.service.specs.Book.{stateOf};
 ghost use Rattle.service.specs.Service.{bookOf};
 ghost use Rattle.delivery.specs.Delivery.{Delivers, Delivery, Answers, deliveryOf};
@@ -43,7 +45,7 @@ fn answer_frame(n: usize, body: &[u8], answer: &mut [u8]) -> usize
     if refusal != 0 {
         return frames::write_refusal(refusal, answer);
     }
-    let answered = frames::respond(n, body, answer);
+    let answered = answers::respond(n, body, answer);
     answered.len
 }
 

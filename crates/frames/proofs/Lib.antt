@@ -1,4 +1,2 @@
 pub mod Items
-pub mod Results
 pub mod Refusals
-pub mod Answers

@@ -8,7 +8,7 @@ use lib.ListN.{length, getD}
 use lib.Dec.{ltb, leb, eqb}
 use borrow.Author.Tests.{lt-ltb, le-ltb, le-leb, leb-true, eq-eqb, ne-eqb, ltb-false}
 use Rattle.frames.specs.Frame.{longestBody, kept, refusalTo, isKind, badPayload}
-use Rattle.frames.specs.Written.{Body}
+use Rattle.frames.specs.Body.{Body}
 
 pub kept-bounds : (n : ℕ) → kept n ≡ true → (2 ≤ n) × (n ≤ longestBody)
 unfolding kept

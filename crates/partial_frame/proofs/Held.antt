@@ -1,18 +1,16 @@
--- What is held and the bytes that it is held for: one byte more in both, and one answer for both. Assumes nothing.
+-- What is held and the bytes that it is held for: one byte more in both, and the bytes back where the body is kept. Assumes nothing.
 use Prim.Native.Nat.{ℕ, suc, _+_, _*_, _≤_}
 use mathlib.Core.Path.{_≡_, refl, sym, ap, ap₂, _∙_}
 use mathlib.Core.List.{List, [], _∷_, _++_}
 use mathlib.Core.Bool.{Bool, true, false, cond}
-use lib.ListN.{length, drop}
+use lib.ListN.{length}
 use native.Mathlib.Omega.{arith}
 use borrow.Author.Tests.{leb-false}
-use Rattle.frames.specs.Frame.{longestBody, answerTo, answerOf, bodyLength, kept, whole}
-use Rattle.partial_frame.specs.State.{keptBytes, placesOf, frameOf, emptyFrame, bytesIn, lengthIn}
+use Rattle.frames.specs.Frame.{longestBody, bodyLength, kept, whole}
+use Rattle.partial_frame.specs.State.{keptBytes, placesOf, frameOf, emptyFrame, bytesIn}
 use Rattle.partial_frame.specs.Steps.{afterByte, wholeIn}
 use Rattle.partial_frame.specs.declared.PartialFrame.{PartialFrame}
 use Rattle.partial_frame.proofs.Places.{padded-padded, length-snoc, places-snoc}
-use Rattle.frames.proofs.Refusals.{kept-bounds}
-use Rattle.frames.proofs.Answers.{answer-by-length}
 
 pub same-cond : {A : Type 0} (t : Bool) (x : A) → cond t x x ≡ x
 same-cond true x = refl
@@ -55,18 +53,3 @@ unfolding whole
 not-past [] b e = omega arith
 not-past (a ∷ []) b e = omega arith
 not-past (a ∷ c ∷ r) b e = omega (arith, leb-false (2 + (a * 256 + c)) (suc (suc (length r))) e, length-snoc r b)
-
--- whole frames that leave one state get one answer
-pub answer-held : (f g : List ℕ) → frameOf f ≡ frameOf g → length f ≤ 2 + bodyLength f → answerOf f ≡ answerOf g
-unfolding answerOf
-answer-held f g e i = go (kept (bodyLength f)) refl
-  where
-    same-length : bodyLength f ≡ bodyLength g
-    same-length = ap lengthIn e
-
-    go : (t : Bool) → kept (bodyLength f) ≡ t → answerOf f ≡ answerOf g
-    go true k =
-        let m = kept-bounds (bodyLength f) k in
-        let n : length f ≡ length g = ap (λ (s : PartialFrame). s .count) e in
-        ap answerOf (sym (recover f k (omega arith)) ∙ ap bytesIn e ∙ recover g (rw (← same-length) k) (omega arith))
-    go false k = answer-by-length (bodyLength f) (drop 2 f) (drop 2 g) k ∙ ap (λ (n : ℕ). answerTo n (drop 2 g)) same-length

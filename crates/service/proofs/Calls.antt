@@ -6,13 +6,14 @@ use mathlib.Core.Bool.{Bool, true, false}
 use native.Mathlib.Omega.{arith}
 use lib.ListN.{length, take, drop}
 use borrow.Author.Tests.{le-ltb, leb-true, leb-false}
-use Rattle.frames.specs.Frame.{Answer, longestBody, answerRoom, answerOf, answerTo, bodyLength, whole, kept, refusalFrame}
+use Rattle.frames.specs.Frame.{longestBody, answerRoom, bodyLength, whole, kept, refusalFrame}
+use Rattle.answers.specs.Answers.{Answer, answerOf, answerTo}
 use Rattle.partial_frame.specs.State.{frameOf, bytesIn, firstBytes, isLeft, filled, keptBytes, placesOf}
 use Rattle.partial_frame.specs.Steps.{afterByte, wholeIn, further, advance}
 use Rattle.service.specs.Memory.{Memory, stateWith, viewIn}
 use Rattle.service.specs.Whole.{Whole, answerIn}
-use Rattle.frames.specs.Written.{Written}
-use Rattle.frames.specs.declared.Answered.{Answered}
+use Rattle.answers.specs.Written.{Written}
+use Rattle.answers.specs.declared.Answered.{Answered}
 use Rattle.service.specs.Book.{emptyBook, stateOf, Entry, Moved, Reply, move, oneMore, closedWith, replyOf, isSmall}
 use Rattle.service.specs.Service.{freshState, isGood, bookOf, takeOf, closeOf, untouched, takenOf, closedOf}
 use Rattle.service.specs.declared.State.{State}
@@ -21,7 +22,7 @@ use Rattle.partial_frame.specs.declared.PartialFrame.{PartialFrame}
 use Rattle.partial_frame.specs.declared.Progress.{Progress}
 use Rattle.partial_frame.proofs.Places.{take-padded, length-places}
 use Rattle.frames.proofs.Refusals.{kept-bounds}
-use Rattle.frames.proofs.Answers.{answer-by-length}
+use Rattle.answers.proofs.Answers.{answer-by-length}
 use Rattle.partial_frame.proofs.Held.{byte-held, whole-held, not-past}
 use Rattle.partial_frame.proofs.Reach.{reach-sound, filled-held}
 use Rattle.service.proofs.Simulation.{move-whole, move-on, fresh-whole, whole-none, good-state}

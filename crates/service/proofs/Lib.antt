@@ -1,3 +1,4 @@
+pub mod Held
 pub mod Memory
 pub mod Simulation
 pub mod Partition

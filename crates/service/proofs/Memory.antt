@@ -7,12 +7,13 @@ use native.Mathlib.Omega.{arith}
 use lib.ListN.{length, drop}
 use lib.Dec.{eqb}
 use borrow.Author.Tests.{ne-eqb}
-use Rattle.frames.specs.Frame.{Answer, answerRoom, answerOf, bodyLength}
-use Rattle.frames.proofs.Answers.{answer-length as frame-length, answer-number as frame-number}
+use Rattle.frames.specs.Frame.{answerRoom, bodyLength}
+use Rattle.answers.specs.Answers.{Answer, answerOf}
+use Rattle.answers.proofs.Answers.{answer-length as frame-length, answer-number as frame-number}
 use Rattle.partial_frame.specs.State.{emptyFrame, frameOf}
-use Rattle.partial_frame.proofs.Held.{answer-held}
 use Rattle.service.specs.Memory.{Memory, View, viewOf, recalled, isView, stateWith, answerWith, remembered, showsMemory}
 use Rattle.service.specs.Service.{freshState}
+use Rattle.service.proofs.Held.{answer-held}
 
 -- an answer has four bytes at least, no more than there is room for and no more than twice its frame, and its number is a sender's
 -- refusal or 0

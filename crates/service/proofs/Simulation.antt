@@ -5,7 +5,8 @@ use mathlib.Core.Path.{_≡_, refl, sym, ap, _∙_}
 use mathlib.Core.List.{List, [], _∷_, _++_}
 use mathlib.Core.Bool.{Bool, true, false}
 use lib.ListN.{length, drop}
-use Rattle.frames.specs.Frame.{Answer, bodyLength, whole, refusalFrame}
+use Rattle.frames.specs.Frame.{bodyLength, whole, refusalFrame}
+use Rattle.answers.specs.Answers.{Answer}
 use Rattle.partial_frame.specs.State.{frameOf, bytesIn}
 use Rattle.service.specs.Memory.{Memory, View, startMemory, viewOf, stateWith, answerWith}
 use Rattle.partial_frame.specs.declared.PartialFrame.{PartialFrame}

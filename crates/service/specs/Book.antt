@@ -4,7 +4,8 @@ use mathlib.Core.List.{List, [], _∷_, _++_}
 use mathlib.Core.Bool.{Bool, cond}
 use lib.ListN.{length, drop}
 use lib.Dec.{ltb}
-use Rattle.frames.specs.Frame.{Answer, answerRoom, whole, refusalFrame}
+use Rattle.frames.specs.Frame.{answerRoom, whole, refusalFrame}
+use Rattle.answers.specs.Answers.{Answer}
 use Rattle.partial_frame.specs.State.{frameOf}
 use Rattle.service.specs.Memory.{Memory, startMemory, viewOf, stateWith, answerWith, remembered}
 use Rattle.service.specs.declared.State.{State}

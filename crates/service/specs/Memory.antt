@@ -3,7 +3,7 @@
 use Prim.Native.Nat.{ℕ}
 use mathlib.Core.List.{List}
 use mathlib.Core.Bool.{Bool, true, false}
-use Rattle.frames.specs.Frame.{Answer, answerOf}
+use Rattle.answers.specs.Answers.{Answer, answerOf}
 use Rattle.partial_frame.specs.declared.PartialFrame.{PartialFrame}
 use Rattle.service.specs.declared.State.{State}
 

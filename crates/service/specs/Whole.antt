@@ -3,7 +3,8 @@ use Prim.Native.Nat.{_≤_}
 use mathlib.Core.Path.{_≡_}
 use mathlib.Core.Bool.{true}
 use lib.ListN.{length, take}
-use Rattle.frames.specs.Frame.{Answer, longestBody, kept, answerTo}
+use Rattle.frames.specs.Frame.{longestBody, kept}
+use Rattle.answers.specs.Answers.{Answer, answerTo}
 use Rattle.partial_frame.specs.State.{lengthIn, filled}
 use Rattle.partial_frame.specs.declared.PartialFrame.{PartialFrame}
 

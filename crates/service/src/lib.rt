@@ -8,12 +8,12 @@ ghost use mathlib.Core.Bool.{false};
 ghost use Prim.Native.Nat.{_≤_};
 ghost use lib.ListN.{length};
 ghost use Rattle.frames.specs.Frame.{answerRoom, whole};
-ghost use Rattle.frames.specs.Written.{Written};
+ghost use Rattle.answers.specs.Written.{Written};
 ghost use Rattle.service.specs.Book.{stateOf};
 ghost use Rattle.service.specs.Service.{freshState, bookOf, takeOf, closeOf, takenOf, closedOf};
 ghost use Rattle.service.specs.Whole.{Whole, answerIn};
+use answers::Answered;
 use frames::ANSWER_ROOM;
-use frames::Answered;
 use partial_frame::PartialFrame;
 
 // What a call is refused by, where its caller brings it about.
@@ -57,7 +57,7 @@ fn answer_whole(frame: PartialFrame, answer: &mut [u8]) -> Answered
 {
     let n = partial_frame::filled_places(frame);
     let body = frame.body;
-    frames::respond(partial_frame::body_length(frame), &body[..n], answer)
+    answers::respond(partial_frame::body_length(frame), &body[..n], answer)
 }
 
 // take, where neither 6 nor 7 refuses it.

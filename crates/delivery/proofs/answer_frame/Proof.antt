@@ -1,6 +1,6 @@
 -- `delivery::answer_frame` meets its contract. Assumes nothing.
 use mathlib.Core.Path.{refl}
-use Rattle.frames.proofs.Answers.{refusal-written}
+use Rattle.answers.proofs.Answers.{refusal-written}
 use borrow.Author.Needs.{needs}
 use Rattle.delivery.proofs.answer_frame.Statement.{statement}
 use Rattle.delivery.proofs.answer_frame.Tie as tie

@@ -3,7 +3,8 @@ use Rattle.service.proofs.Calls.{written-as}
 use mathlib.Core.Path.{sym, ap, _∙_}
 use native.Mathlib.Omega.{arith}
 use lib.ListN.{take, length-take}
-use Rattle.frames.specs.Frame.{answerTo, kept}
+use Rattle.frames.specs.Frame.{kept}
+use Rattle.answers.specs.Answers.{answerTo}
 use borrow.Author.Needs.{needs}
 use Rattle.service.proofs.answer_whole.Statement.{statement}
 use Rattle.service.proofs.answer_whole.Tie as tie

@@ -1,16 +1,34 @@
--- The results of a payload's items, written one behind the other. Assumes nothing.
-use Prim.Native.Nat.{ℕ, zero, suc, _+_, _*_, _-_, _≤_, _<_}
+-- The results of a payload's items: which they are, and how they are written one behind the other. Assumes nothing.
+use Prim.Native.Nat.{ℕ, zero, suc, _+_, _*_, _-_, _/_, _≤_, _<_}
 use mathlib.Core.Path.{_≡_, refl, sym, ap, _∙_}
 use mathlib.Core.List.{List, _++_}
-use native.Mathlib.Nat.{mul-le-mul-right, suc-mul}
+use native.Mathlib.Nat.{mul-le-mul-left, mul-le-mul-right, div-mul-le-self, suc-mul}
 use native.Mathlib.Numerals.{add-one}
 use native.Mathlib.Omega.{arith}
 use lib.ListN.{length, take, drop, length-append, length-drop}
+use borrow.Author.Tests.{eq-eqb, ne-eqb}
 use borrow.Rule.Slice.PartMut.{putMid}
-use Rattle.words.specs.Bytes.{wordBytes}
+use Rattle.words.specs.Bytes.{numberAt, wordBytes}
 use Rattle.words.proofs.Numbers.{length-word}
 use Rattle.words.proofs.Parts.{put-behind}
-use Rattle.frames.specs.Frame.{itemBytes, resultAt, resultsOf}
+use Rattle.rounding.specs.declared.Direction.the-variants.{Nearest}
+use Rattle.ieee754.specs.Operations.{fusedBits}
+use Rattle.exp2m1.specs.Score.{scoreBits}
+use Rattle.frames.specs.Frame.{itemBytes}
+use Rattle.answers.specs.Answers.{resultAt, resultsOf}
+
+pub result-one : {kind : ℕ} → kind ≡ 1 → (p : List ℕ) (at : ℕ) → resultAt kind p at ≡ scoreBits (numberAt 8 p at)
+unfolding resultAt
+result-one {kind} e p at = rw (eq-eqb kind 1 e) refl
+
+pub result-other : {kind : ℕ} → (kind ≡ 1 → ⊥) → (p : List ℕ) (at : ℕ)
+    → resultAt kind p at ≡ fusedBits Nearest (numberAt 8 p at) (numberAt 8 p (at + 8)) (numberAt 8 p (at + 16))
+unfolding resultAt
+result-other {kind} e p at = rw (ne-eqb kind 1 e) refl
+
+-- an item has 8 bytes at least, so the results take no more room than the payload
+pub results-fit : (n size : ℕ) → 8 ≤ size → 8 * (n / size) ≤ n
+results-fit n size h = let m : n / size * 8 ≤ n / size * size = mul-le-mul-left (n / size) h in omega (arith, div-mul-le-self n size)
 
 pub length-results : (kind n : ℕ) (p : List ℕ) → length (resultsOf kind n p) ≡ 8 * n
 unfolding resultsOf

@@ -1,15 +1,10 @@
--- What the functions of this crate say of each other. Nothing here is part of what a frame means. Definitions only.
+-- What the functions of this crate say of each other. Nothing here is part of what an answer means. Definitions only.
 use Prim.Native.Nat.{ℕ}
 use mathlib.Core.Path.{_≡_}
 use mathlib.Core.List.{List, _++_}
-use mathlib.Core.Bool.{true}
 use lib.ListN.{length, drop}
-use Rattle.frames.specs.Frame.{Answer, kept}
-use Rattle.frames.specs.declared.Answered.{Answered}
-
--- body has n bytes, where n is a length that is kept
-abbrev pub Body : ℕ → List ℕ → Type 0
-Body n body = kept n ≡ true → length body ≡ n
+use Rattle.answers.specs.Answers.{Answer}
+use Rattle.answers.specs.declared.Answered.{Answered}
 
 -- the answer fills the buffer's front, the rest keeps its content, and the answer's length and number are returned
 pub record Written (a : Answer) (r : Answered) (before after : List ℕ) : Type 0 where

@@ -1,8 +1,8 @@
--- `frames::respond` meets its contract. Assumes nothing.
-use Rattle.frames.proofs.Answers.{refusal-written}
+-- `answers::respond` meets its contract. Assumes nothing.
+use Rattle.answers.proofs.Answers.{refusal-written}
 use borrow.Author.Needs.{needs}
-use Rattle.frames.proofs.respond.Statement.{statement}
-use Rattle.frames.proofs.respond.Tie as tie
+use Rattle.answers.proofs.respond.Statement.{statement}
+use Rattle.answers.proofs.respond.Tie as tie
 
 refusal-to-requires : tie.Need-refusal-to-requires
 refusal-to-requires c κs = search needs

@@ -11,13 +11,14 @@ use borrow.Author.Tests.{eq-eqb, ne-eqb, eqb-true, eqb-false, ltb-true, ltb-fals
 use borrow.Rule.Slice.PartMut.{putMid}
 use lib.Seq.{drop-length}
 use denote.Ref.{RefT, now}
-use Rattle.frames.specs.Part.{Part, payloadFrom}
 use Rattle.words.proofs.Parts.{put-behind}
-use Rattle.frames.specs.Frame.{Answer, longestBody, answerRoom, kept, itemBytes, resultsOf, refusalTo, refusalFrame, accepted, answerTo}
-use Rattle.frames.specs.Written.{Written}
-use Rattle.frames.proofs.Items.{results-fit, item-one, item-other}
-use Rattle.frames.proofs.Results.{length-results}
+use Rattle.frames.specs.Frame.{longestBody, answerRoom, kept, itemBytes, refusalTo, refusalFrame}
+use Rattle.frames.specs.Part.{Part, payloadFrom}
+use Rattle.frames.proofs.Items.{item-one, item-other}
 use Rattle.frames.proofs.Refusals.{bounds-kept, too-short, too-long, refusal-most, good-length}
+use Rattle.answers.specs.Answers.{Answer, resultsOf, accepted, answerTo}
+use Rattle.answers.specs.Written.{Written}
+use Rattle.answers.proofs.Results.{results-fit, length-results}
 
 pub answer-good : (n : ℕ) (b : List ℕ) → refusalTo n b ≡ 0 → answerTo n b ≡ record { bytes = accepted n b; number = 0 }
 unfolding answerTo

@@ -1,13 +1,14 @@
--- `frames::result_at` meets its contract. Assumes nothing.
+-- `answers::result_at` meets its contract. Assumes nothing.
 use mathlib.Core.Path.{sym, ap, _∙_}
 use native.Mathlib.Omega.{arith}
 use Rattle.rounding.specs.declared.Direction.the-variants.{Nearest}
 use Rattle.ieee754.specs.Operations.{fusedBits}
 use Rattle.exp2m1.specs.Score.{scoreBits}
-use Rattle.frames.proofs.Items.{item-one, item-other, result-one, result-other}
+use Rattle.frames.proofs.Items.{item-one, item-other}
+use Rattle.answers.proofs.Results.{result-one, result-other}
 use borrow.Author.Needs.{needs}
-use Rattle.frames.proofs.result_at.Statement.{statement}
-use Rattle.frames.proofs.result_at.Tie as tie
+use Rattle.answers.proofs.result_at.Statement.{statement}
+use Rattle.answers.proofs.result_at.Tie as tie
 
 read-u64-requires : tie.Need-read-u64-requires
 read-u64-requires c κs = omega (arith, item-one (c .if1 .taken))

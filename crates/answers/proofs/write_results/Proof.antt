@@ -1,4 +1,4 @@
--- `frames::write_results` meets its contract: the results so far stand at the front, and the rest is as it was. Assumes nothing.
+-- `answers::write_results` meets its contract: the results so far stand at the front, and the rest is as it was. Assumes nothing.
 use Prim.Native.Nat.{ℕ, _+_, _*_, _-_, _≤_}
 use mathlib.Core.Path.{_≡_, refl, sym, ap, _∙_}
 use mathlib.Core.List.{_++_}
@@ -6,10 +6,11 @@ use native.Mathlib.Nat.{zero-mul, suc-mul}
 use native.Mathlib.Numerals.{add-one}
 use native.Mathlib.Omega.{arith}
 use lib.ListN.{length, drop, length-take, length-drop}
-use Rattle.frames.specs.Frame.{itemBytes, resultAt, resultsOf}
-use Rattle.frames.proofs.Results.{item-within, out-length, results-step}
-use Rattle.frames.proofs.write_results.Statement.{statement}
-use Rattle.frames.proofs.write_results.Tie as tie
+use Rattle.frames.specs.Frame.{itemBytes}
+use Rattle.answers.specs.Answers.{resultAt, resultsOf}
+use Rattle.answers.proofs.Results.{item-within, out-length, results-step}
+use Rattle.answers.proofs.write_results.Statement.{statement}
+use Rattle.answers.proofs.write_results.Tie as tie
 
 abbrev Inv-loop : tie.InvT-loop
 Inv-loop kind payload n out₀ size i₀ from₀ at₀ out i from at =

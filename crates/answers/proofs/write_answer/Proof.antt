@@ -1,17 +1,17 @@
--- `frames::write_answer` meets its contract: a head, and the results behind it. Assumes nothing.
+-- `answers::write_answer` meets its contract: a head, and the results behind it. Assumes nothing.
 use Prim.Native.Nat.{ℕ, _*_, _-_, _/_, _≤_}
 use mathlib.Core.Path.{_≡_, ap, _∙_}
 use native.Mathlib.Nat.{le-trans, div-mul-le-self}
 use native.Mathlib.Omega.{arith}
 use lib.Dec.{lit≤}
 use lib.ListN.{length, getD, length-take, length-drop}
 use Rattle.frames.specs.Frame.{itemBytes}
-use Rattle.frames.proofs.Items.{results-fit}
 use Rattle.frames.proofs.Refusals.{good-length, body-length}
-use Rattle.frames.proofs.Answers.{payload-contents, accepted-written}
+use Rattle.answers.proofs.Results.{results-fit}
+use Rattle.answers.proofs.Answers.{payload-contents, accepted-written}
 use borrow.Author.Needs.{needs}
-use Rattle.frames.proofs.write_answer.Statement.{statement}
-use Rattle.frames.proofs.write_answer.Tie as tie
+use Rattle.answers.proofs.write_answer.Statement.{statement}
+use Rattle.answers.proofs.write_answer.Tie as tie
 
 shared-slice-read-kind : tie.Need-shared-slice-read-kind
 shared-slice-read-kind c =

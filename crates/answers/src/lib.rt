@@ -1,0 +1,77 @@
+// The answer to a whole frame: the results of its payload, or its refusal, written into a buffer.
+//
+// The contracts are equations with document 01's answers on lists of bytes, in specs/Answers.antt.
+ghost use mathlib.Core.Path.{_≡_};
+ghost use mathlib.Core.List.{_++_};
+ghost use Prim.Native.Nat.{_+_, _*_, _≤_};
+ghost use lib.ListN.{length, drop};
+ghost use Rattle.frames.specs.Frame.{answerRoom, itemBytes, refusalTo};
+ghost use Rattle.frames.specs.Body.{Body};
+ghost use Rattle.answers.specs.Answers.{resultAt, resultsOf, answerTo};
+ghost use Rattle.answers.specs.Written.{Written};
+use frames::SCORES;
+
+// The result of the item at a place of a payload.
+fn result_at(kind: u8, payload: &[u8], at: usize) -> u64
+    requires { ⌜ at + itemBytes kind ≤ length (now payload) ⌝ }
+    ensures { λ r. ⌜ r ≡ resultAt kind (now (payload .entry)) at ⌝ }
+{
+    if kind == SCORES {
+        return exp2m1::score(words::read_u64(payload, at));
+    }
+    let a = words::read_u64(payload, at);
+    let b = words::read_u64(payload, at + 8);
+    let c = words::read_u64(payload, at + 16);
+    multiply_add::fused(a, b, c)
+}
+
+// Writes the results of the first n items of a payload.
+fn write_results(kind: u8, payload: &[u8], n: usize, out: &mut [u8])
+    requires { ⌜ (n * itemBytes kind ≤ length (now payload)) × (8 * n ≤ length (now out)) ⌝ }
+    ensures { λ r. ⌜ now (out .exit) ≡ resultsOf kind n (now (payload .entry)) ++ drop (8 * n) (now (out .entry)) ⌝ }
+{
+    let size = frames::item_bytes(kind);
+    let mut i = 0;
+    let mut from = 0;
+    let mut at = 0;
+    while i < n {
+        let x = result_at(kind, payload, from);
+        words::write_u64(&mut out[at..], x);
+        i += 1;
+        from += size;
+        at += 8;
+    }
+}
+
+// The length of an answer that was written, and its refusal number or 0.
+pub struct Answered {
+    pub len: usize,
+    pub refusal: u8,
+}
+
+// Writes the answer to a frame that is not refused.
+fn write_answer(n: usize, body: &[u8], answer: &mut [u8]) -> usize
+    requires { ⌜ Body n (now body) × (refusalTo n (now body) ≡ 0) × (answerRoom ≤ length (now answer)) ⌝ }
+    ensures { λ r. ⌜ Written (answerTo n (now (body .entry))) (record { len = r; refusal = 0 }) (now (answer .entry)) (now (answer .exit)) ⌝ }
+{
+    let kind = body[1];
+    let count = (n - 2) / frames::item_bytes(kind);
+    let size = 8 * count + 2;
+    frames::write_head(answer, size, 0);
+    write_results(kind, frames::payload(body), count, &mut answer[4..]);
+    size + 2
+}
+
+// Answers a whole frame with a body of n bytes. Where n is 2 to 514, body is that body; another length is refused by itself.
+pub fn respond(n: usize, body: &[u8], answer: &mut [u8]) -> Answered
+    requires { ⌜ Body n (now body) × (answerRoom ≤ length (now answer)) ⌝ }
+    ensures { λ r. ⌜ Written (answerTo n (now (body .entry))) r (now (answer .entry)) (now (answer .exit)) ⌝ }
+{
+    let refusal = frames::refusal_to(n, body);
+    if refusal != 0 {
+        let len = frames::write_refusal(refusal, answer);
+        return Answered { len, refusal };
+    }
+    let len = write_answer(n, body, answer);
+    Answered { len, refusal }
+}
