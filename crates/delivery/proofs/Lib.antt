@@ -1,5 +1,4 @@
 pub mod Takes
-pub mod Frames
 pub mod Runs
 pub mod Promises
 pub mod Room

@@ -80,10 +80,10 @@ pub uses : (b : Book) (p : List ℕ) → 0 < length p → 1 ≤ bookTake b p .us
 uses b [] l = absurd (omega arith)
 uses b (x ∷ p) l = uses-some b x p
 
--- there is a turn for each byte that is left
-pub more-turns : (n used most : ℕ) → used < most → most - used ≤ n → (m : ℕ) × (n ≡ suc m)
-more-turns zero used most h l = absurd (omega arith)
-more-turns (suc m) used most h l = (m, refl)
+-- the turns behind the next one; there is one for each byte that is left
+pub more-turns : (n : ℕ) → 0 < n → (m : ℕ) × (n ≡ suc m)
+more-turns zero h = absurd (omega arith)
+more-turns (suc m) h = (m, refl)
 
 -- ---- a delivery under way
 
@@ -192,7 +192,7 @@ module _ {g : Given} {piece out₀ out : List ℕ} {s : State} {used len : ℕ} 
     going-on =
         let u : t .used ≡ e .used = ap (λ (x : Taken). x .used) taken in
         let l : t .len ≡ length (e .answer) = ap (λ (x : Taken). x .len) taken in
-        let m = more-turns (go .turns) used (length piece) h (go .enough) in
+        let m = more-turns (go .turns) (omega (arith, go .enough)) in
         let r = length out₀ - len in
         let next = takes (m .0) (r - length (e .answer)) (e .book) (drop (e .used) p) in
         let big : answerRoom ≤ r = omega (arith, out-length) in

@@ -7,11 +7,10 @@ use mathlib.Core.Bool.{true, cond}
 use lib.ListN.{length, drop}
 use lib.Dec.{ltb}
 use Rattle.frames.specs.Frame.{answerRoom}
-use Rattle.service.specs.Book.{Book, Entry, Reply, emptyBook, stateOf, bookTake, isSmall}
+use Rattle.service.specs.Book.{Book, Entry, Reply, stateOf, bookTake, isSmall}
 use Rattle.service.specs.Service.{isGood, bookOf, untouched}
 use Rattle.service.specs.declared.State.{State}
 use Rattle.delivery.specs.declared.HandedOn.{HandedOn}
-use Rattle.delivery.specs.declared.Run.{Run}
 
 -- what the book gives for a piece: the bytes used, the answers one after another, and the book after it
 pub record Given : Type 0 where
@@ -67,18 +66,3 @@ pub record Delivers (s : State) (piece before : List ℕ) (r : HandedOn) (after 
 pub record Delivery (g : Given) (r : HandedOn) (before after : List ℕ) : Type 0 where
   pub reply : r ≡ handedOnOf (given g before)
   pub buffer : after ≡ given g before .buffer
-
--- whole frames at a piece's front, each answered as a take of an empty book answers it, and with room for an answer
-pub data Frames (piece : List ℕ) (room : ℕ) : ℕ → List ℕ → Type 0 where
-  none : Frames piece room 0 []
-  more : {used : ℕ} {answers : List ℕ} → Frames piece room used answers → used < length piece → answerRoom ≤ room - length answers
-      → bookTake emptyBook (drop used piece) .book ≡ emptyBook
-      → Frames piece room (used + bookTake emptyBook (drop used piece) .used) (answers ++ bookTake emptyBook (drop used piece) .answer)
-
-pub record Answers (piece : List ℕ) (r : Run) (before after : List ℕ) : Type 0 where
-  pub answers : List ℕ
-  pub frames : Frames piece (length before) (r .used) answers
-  pub within : r .used ≤ length piece
-  pub fits : r .len ≤ length before
-  pub len : r .len ≡ length answers
-  pub buffer : after ≡ answers ++ drop (r .len) before

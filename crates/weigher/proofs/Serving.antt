@@ -67,7 +67,7 @@ module _ {s₀ s : State} {piece space₀ space : List ℕ} {at : ℕ} (go : Ser
 
     pub serving-on : length after ≡ length space → Serving s₀ piece space₀ after (r .state) (at + r .used)
     serving-on same =
-        let m = more-turns (go .turns) at (length piece) h (go .enough) in
+        let m = more-turns (go .turns) (omega (arith, go .enough)) in
         let next = handed (m .0) (e .state) (drop (e .used) p) (e .buffer) in
         let some : 0 < length p = omega (arith, length-drop at piece) in
         record {

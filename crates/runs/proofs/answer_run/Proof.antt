@@ -1,13 +1,13 @@
--- `delivery::answer_run` meets its contract: each turn is one whole frame more. Assumes nothing.
+-- `runs::answer_run` meets its contract: each turn is one whole frame more. Assumes nothing.
 use Prim.Native.Nat.{_-_}
 use native.Mathlib.Omega.{arith}
 use lib.ListN.{length, length-drop}
 use mathlib.Core.Path.{ap}
 use Rattle.words.proofs.Parts.{to-end}
-use Rattle.delivery.specs.Delivery.{Answers}
-use Rattle.delivery.proofs.Frames.{no-frames, body-length, run-length, one-more-fits, one-more-frame}
-use Rattle.delivery.proofs.answer_run.Statement.{statement}
-use Rattle.delivery.proofs.answer_run.Tie as tie
+use Rattle.runs.specs.Runs.{Answers}
+use Rattle.runs.proofs.Frames.{no-frames, body-length, run-length, one-more-fits, one-more-frame}
+use Rattle.runs.proofs.answer_run.Statement.{statement}
+use Rattle.runs.proofs.answer_run.Tie as tie
 
 abbrev Inv-loop : tie.InvT-loop
 Inv-loop piece answers₀ used₀ len₀ answers used len = Answers piece (record { used = used; len = len }) answers₀ answers

@@ -1,9 +1,9 @@
--- `delivery::answer_frame` meets its contract. Assumes nothing.
+-- `runs::answer_frame` meets its contract. Assumes nothing.
 use mathlib.Core.Path.{refl}
 use Rattle.answers.proofs.Answers.{refusal-written}
 use borrow.Author.Needs.{needs}
-use Rattle.delivery.proofs.answer_frame.Statement.{statement}
-use Rattle.delivery.proofs.answer_frame.Tie as tie
+use Rattle.runs.proofs.answer_frame.Statement.{statement}
+use Rattle.runs.proofs.answer_frame.Tie as tie
 
 refusal-to-requires : tie.Need-refusal-to-requires
 refusal-to-requires c κs = search needs

@@ -1,0 +1,24 @@
+-- A run: whole frames one after another at a piece's front, and their answers in the same order. Nothing here is part of what the
+-- service means: crates/delivery shows that the book takes a run frame by frame. Definitions only.
+use Prim.Native.Nat.{ℕ, _+_, _-_, _≤_}
+use mathlib.Core.Path.{_≡_}
+use mathlib.Core.List.{List, [], _++_}
+use lib.ListN.{length, take, drop}
+use Rattle.frames.specs.Frame.{answerRoom, bodyLength}
+use Rattle.answers.specs.Answers.{answerOf}
+use Rattle.runs.specs.declared.Run.{Run}
+
+-- whole frames and their answers; before each frame there is room for one more answer
+pub data Frames (room : ℕ) : List ℕ → List ℕ → Type 0 where
+  none : Frames room [] []
+  more : {front answers : List ℕ} → Frames room front answers → (f : List ℕ) → length f ≡ 2 + bodyLength f → answerRoom ≤ room - length answers
+      → Frames room (front ++ f) (answers ++ answerOf f .bytes)
+
+-- what answer_run promises: the bytes used are whole frames, their answers fill the buffer's front, and the rest keeps its content
+pub record Answers (piece : List ℕ) (r : Run) (before after : List ℕ) : Type 0 where
+  pub answers : List ℕ
+  pub frames : Frames (length before) (take (r .used) piece) answers
+  pub within : r .used ≤ length piece
+  pub fits : r .len ≤ length before
+  pub len : r .len ≡ length answers
+  pub buffer : after ≡ answers ++ drop (r .len) before
