@@ -85,9 +85,6 @@ module _ {g : Given} {piece out₀ out : List ℕ} {s : State} {used len : ℕ} 
   frames : Frames (length out₀ - len) front (a .answers)
   frames = subst₂ (λ (n : ℕ) (p : List ℕ). Frames n (take (r .used) p) (a .answers)) room-left (to-end used piece) (a .frames)
 
-  pub run-within : (used + r .used ≤ length piece) × (len + r .len ≤ length out₀)
-  run-within = (omega (arith, a .within, left, go .within), omega (arith, a .fits, room-left, go .room))
-
   pub going-run : Going g piece out₀ (putMid len (length out - len) out w) s (used + r .used) (len + r .len)
   going-run =
       let f = frames-takes frames rest (go .turns) (omega (arith, ap length all, length-drop used piece, go .enough)) in
@@ -98,8 +95,8 @@ module _ {g : Given} {piece out₀ out : List ℕ} {s : State} {used len : ℕ} 
         turns = f .0;
         shown = go .shown ∙ ap stateOf empty;
         unfinished = whole-none;
-        within = run-within .0;
-        room = run-within .1;
+        within = omega (arith, a .within, left, go .within);
+        room = omega (arith, a .fits, room-left, go .room);
         enough = omega (arith, f .1, length-drop used piece, length-drop (r .used) (drop used piece));
         long = length-append (go .answers) (a .answers) ∙ omega (arith, go .long, a .len);
         front = put-behind len (r .len) out out₀ (go .answers) (a .answers) w (go .long) (go .front) (a .buffer);

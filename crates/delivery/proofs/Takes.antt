@@ -111,6 +111,12 @@ pub record Going (g : Given) (piece out₀ : List ℕ) (out : List ℕ) (s : Sta
   pub front : out ≡ answers ++ drop len out₀
   pub rest : g ≡ behind used answers (takes turns (length out₀ - len) book (drop used piece))
 
+-- one take more: the rest goes on behind it, it used a byte, and where it answered the book is empty
+pub record Took (g : Given) (piece out₀ out : List ℕ) (used len : ℕ) (t : Taken) (w : List ℕ) : Type 0 where
+  pub going : Going g piece out₀ (putMid len (length out - len) out w) (t .state) (used + t .used) (len + t .len)
+  pub some : 1 ≤ t .used
+  pub emptied : 0 < t .len → going .book ≡ emptyBook
+
 pub going : (b : Book) (piece out : List ℕ) (s : State) → s ≡ stateOf b → whole (b .held) ≡ false → Going (deliveryOf b piece (length out)) piece out out s 0 0
 unfolding deliveryOf
 going b piece out s e w =
@@ -150,7 +156,6 @@ module _ {g : Given} {piece out₀ out : List ℕ} {s : State} {used len : ℕ} 
   pub going-full : length out - len < answerRoom → Delivery g (record { state = s; used = used; len = len; refusal = 0 }) out₀ out
   going-full h = going-out (takes-full (go .turns) (length out₀ - len) (go .book) (drop used piece) (omega (arith, out-length)))
 
-  -- one take more
   module _ (h : used < length piece) (room : answerRoom ≤ length out - len) (t : Taken) (w : List ℕ)
       (et : t ≡ takenOf (takeOf s (take (length piece - used) (drop used piece)) (take (length out - len) (drop len out))))
       (ew : w ≡ takeOf s (take (length piece - used) (drop used piece)) (take (length out - len) (drop len out)) .buffer) where
@@ -178,20 +183,17 @@ module _ {g : Given} {piece out₀ out : List ℕ} {s : State} {used len : ℕ} 
     taken : t ≡ takenOf (replyOf e buffer)
     taken = et ∙ ap takenOf replied
 
-    pub step-used : (t .used ≤ length piece - used) × (1 ≤ t .used)
-    step-used =
-        let u : t .used ≡ e .used = ap (λ (x : Taken). x .used) taken in
-        (omega (arith, take-most (go .book) p, length-drop used piece), omega (arith, uses (go .book) p some))
+    same-used : t .used ≡ e .used
+    same-used = ap (λ (x : Taken). x .used) taken
 
-    pub step-len : t .len ≤ length out₀ - len
-    step-len =
-        let u : t .len ≡ length (e .answer) = ap (λ (x : Taken). x .len) taken in
-        omega (arith, answer-most (go .book) p, out-length)
+    same-len : t .len ≡ length (e .answer)
+    same-len = ap (λ (x : Taken). x .len) taken
 
-    pub going-on : Going g piece out₀ (putMid len (length out - len) out w) (t .state) (used + t .used) (len + t .len)
+    some-used : 1 ≤ t .used
+    some-used = omega (arith, same-used, uses (go .book) p some)
+
+    going-on : Going g piece out₀ (putMid len (length out - len) out w) (t .state) (used + t .used) (len + t .len)
     going-on =
-        let u : t .used ≡ e .used = ap (λ (x : Taken). x .used) taken in
-        let l : t .len ≡ length (e .answer) = ap (λ (x : Taken). x .len) taken in
         let m = more-turns (go .turns) (omega (arith, go .enough)) in
         let r = length out₀ - len in
         let next = takes (m .0) (r - length (e .answer)) (e .book) (drop (e .used) p) in
@@ -202,29 +204,26 @@ module _ {g : Given} {piece out₀ out : List ℕ} {s : State} {used len : ℕ} 
           turns = m .0;
           shown = ap (λ (x : Taken). x .state) taken;
           unfinished = take-unfinished (go .book) p;
-          within = omega (arith, step-used .0);
-          room = omega (arith, step-len);
-          enough = omega (arith, step-used .1, go .enough, m .1);
-          long = length-append (go .answers) (e .answer) ∙ omega (arith, go .long);
+          within = omega (arith, same-used, take-most (go .book) p, length-drop used piece);
+          room = omega (arith, same-len, answer-most (go .book) p, out-length);
+          enough = omega (arith, some-used, go .enough, m .1);
+          long = length-append (go .answers) (e .answer) ∙ omega (arith, go .long, same-len);
           front =
               put-behind len (length (e .answer)) out out₀ (go .answers) (e .answer) w (go .long) (go .front) (ew ∙ ap (λ (x : Reply). x .buffer) replied)
-              ∙ ap (λ (n : ℕ). (go .answers ++ e .answer) ++ drop (len + n) out₀) (sym l);
+              ∙ ap (λ (n : ℕ). (go .answers ++ e .answer) ++ drop (len + n) out₀) (sym same-len);
           rest =
               go .rest
               ∙ ap (behind used (go .answers)) (ap (λ (n : ℕ). takes n r (go .book) p) (m .1) ∙ takes-step (m .0) r (go .book) p some big)
               ∙ behind-behind used (e .used) (go .answers) (e .answer) next
-              ∙ (λ j. behind (used + sym u j) (go .answers ++ e .answer) (takes (m .0) (left j) (e .book) (places j)));
+              ∙ (λ j. behind (used + sym same-used j) (go .answers ++ e .answer) (takes (m .0) (left j) (e .book) (places j)));
         }
       where
-        u₀ : t .used ≡ e .used
-        u₀ = ap (λ (x : Taken). x .used) taken
-
         left : length out₀ - len - length (e .answer) ≡ length out₀ - (len + t .len)
-        left = omega (arith, ap (λ (x : Taken). x .len) taken)
+        left = omega (arith, same-len)
 
         places : drop (e .used) p ≡ drop (used + t .used) piece
-        places = drop-drop (e .used) used piece ∙ ap (λ (n : ℕ). drop (used + n) piece) (sym u₀)
+        places = drop-drop (e .used) used piece ∙ ap (λ (n : ℕ). drop (used + n) piece) (sym same-used)
 
-    pub emptied-on : 0 < t .len → going-on .book ≡ emptyBook
+    pub one-take : Took g piece out₀ out used len t w
     unfolding going-on
-    emptied-on l = take-answered (go .book) p (subst (λ (n : ℕ). 0 < n) (ap (λ (x : Taken). x .len) taken) l)
+    one-take = record { going = going-on; some = some-used; emptied = λ h. take-answered (go .book) p (subst (λ (n : ℕ). 0 < n) same-len h) }

@@ -72,9 +72,6 @@ module _ {piece out₀ out : List ℕ} {used len : ℕ} (s : Answers piece (reco
     abbrev answer : List ℕ
     answer = answerTo n (bodyAt piece used n) .bytes
 
-    pub one-more-fits : len + a .len ≤ length out₀
-    one-more-fits = omega (arith, ew .len, answer-length n (bodyAt piece used n) .1, run-length)
-
     pub one-more-frame : Answers piece (record { used = used + 2 + n; len = len + a .len }) out₀ (putMid len (length out - len) out w)
     one-more-frame =
         record {
@@ -82,7 +79,7 @@ module _ {piece out₀ out : List ℕ} {used len : ℕ} (s : Answers piece (reco
           frames = subst₂ (λ (x : List ℕ) (y : Answer). Frames (length out₀) x (s .answers ++ y .bytes)) (frame-behind piece used n h en) (frame-answer piece used n h en)
               (Frames.more (s .frames) (take (2 + n) (drop used piece)) (frame-whole piece used n h en) (omega (arith, run-length, s .len)));
           within = h;
-          fits = one-more-fits;
+          fits = omega (arith, ew .len, answer-length n (bodyAt piece used n) .1, run-length);
           len = ap₂ (λ (x y : ℕ). x + y) (s .len) (ew .len) ∙ sym (length-append (s .answers) answer);
           buffer =
               put-behind len (length answer) out out₀ (s .answers) answer w (sym (s .len)) (s .buffer) (ew .buffer)

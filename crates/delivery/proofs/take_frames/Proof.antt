@@ -4,8 +4,8 @@ use native.Mathlib.Omega.{arith}
 use lib.ListN.{length}
 use Rattle.service.specs.Service.{bookOf}
 use Rattle.delivery.specs.Delivery.{deliveryOf}
-use Rattle.delivery.proofs.Takes.{Going, going, going-empty, going-full, going-on, emptied-on, out-length, step-used, step-len}
-use Rattle.delivery.proofs.Runs.{going-run, run-within}
+use Rattle.delivery.proofs.Takes.{Going, Took, going, going-empty, going-full, one-take, out-length}
+use Rattle.delivery.proofs.Runs.{going-run}
 use Rattle.delivery.proofs.take_frames.Statement.{statement}
 use Rattle.delivery.proofs.take_frames.Tie as tie
 
@@ -50,30 +50,48 @@ part-take-end-2 c = omega arith
 take-requires : tie.Need-take-requires Inv-loop μ-loop
 take-requires c κs = tt
 
+-- ---- after take
+
+abbrev loop-of : tie.After-take Inv-loop μ-loop → tie.At-loop Inv-loop μ-loop
+loop-of t = t .before .before .before .before .before
+
+abbrev start-of : tie.After-take Inv-loop μ-loop → tie.Start Inv-loop μ-loop
+start-of t = loop-of t .before .before .before
+
+took : (t : tie.After-take Inv-loop μ-loop)
+    → let s = loop-of t .loop in
+    let a = start-of t .args in
+    Took (deliveryOf (bookOf (a .state)) (a .piece .now) (length (a .answers .now))) (a .piece .now) (a .answers .now) (s .answers) (s .used) (s .len) (t .take .result) (t .take .last .1 .1 .0)
+took t = one-take (loop-of t .loop .inv) (t .before .before .before .before .loop-test .taken) (t .before .before .before .if1 .left) (t .take .result) _ (t .take .ensures .0) (t .take .ensures .1)
+
 add-used : tie.Need-add-used Inv-loop μ-loop
-add-used c = omega (arith, c .before .before .before .before .before .before .before .before .before .before .before .before .good .1 .0 .0, step-used (c .before .before .before .before .before .before .before .before .before .loop .inv) (c .before .before .before .before .before .before .before .before .loop-test .taken) (c .before .before .before .before .before .before .before .if1 .left) (c .before .before .before .before .take .result) _ (c .before .before .before .before .take .ensures .0) (c .before .before .before .before .take .ensures .1) .0)
+add-used c = let t = c .before .before .before .before in omega (arith, start-of t .good .1 .0 .0, took t .going .within)
 
 add-len : tie.Need-add-len Inv-loop μ-loop
-add-len c = omega (arith, c .before .before .before .before .before .before .before .before .before .before .before .before .before .good .1 .1 .0 .0, step-len (c .before .before .before .before .before .before .before .before .before .before .loop .inv) (c .before .before .before .before .before .before .before .before .before .loop-test .taken) (c .before .before .before .before .before .before .before .before .if1 .left) (c .before .before .before .before .before .take .result) _ (c .before .before .before .before .before .take .ensures .0) (c .before .before .before .before .before .take .ensures .1))
+add-len c = let t = c .before .before .before .before .before in omega (arith, start-of t .good .1 .1 .0 .0, took t .going .room)
+
+loop-less-2 : tie.Need-loop-less-2 Inv-loop μ-loop
+loop-less-2 c = omega (arith, took (c .before .before .before .before .before .before .before) .some)
+
+loop-again-2 : tie.Need-loop-again-2 Inv-loop μ-loop
+loop-again-2 c = took (c .before .before .before .before .before .before .before) .going
+
+-- ---- the run behind it
 
 sub-answer-run : tie.Need-sub-answer-run Inv-loop μ-loop
-sub-answer-run c = omega (arith, going-on (c .before .before .before .before .before .before .before .before .before .before .before .before .loop .inv) (c .before .before .before .before .before .before .before .before .before .before .before .loop-test .taken) (c .before .before .before .before .before .before .before .before .before .before .if1 .left) (c .before .before .before .before .before .before .before .take .result) _ (c .before .before .before .before .before .before .before .take .ensures .0) (c .before .before .before .before .before .before .before .take .ensures .1) .within)
+sub-answer-run c = omega (arith, took (c .before .before .before .before .before .before .before) .going .within)
 
 part-answer-run-start : tie.Need-part-answer-run-start Inv-loop μ-loop
-part-answer-run-start c = omega (arith, going-on (c .before .before .before .before .before .before .before .before .before .before .before .before .loop .inv) (c .before .before .before .before .before .before .before .before .before .before .before .loop-test .taken) (c .before .before .before .before .before .before .before .before .before .before .if1 .left) (c .before .before .before .before .before .before .before .take .result) _ (c .before .before .before .before .before .before .before .take .ensures .0) (c .before .before .before .before .before .before .before .take .ensures .1) .within)
+part-answer-run-start c = omega (arith, took (c .before .before .before .before .before .before .before) .going .within)
 
 part-answer-run-end : tie.Need-part-answer-run-end Inv-loop μ-loop
 part-answer-run-end c = omega arith
 
 sub-answer-run-2 : tie.Need-sub-answer-run-2 Inv-loop μ-loop
-sub-answer-run-2 c =
-    let go = going-on (c .before .before .before .before .before .before .before .before .before .before .before .before .before .loop .inv) (c .before .before .before .before .before .before .before .before .before .before .before .before .loop-test .taken) (c .before .before .before .before .before .before .before .before .before .before .before .if1 .left) (c .before .before .before .before .before .before .before .before .take .result) _ (c .before .before .before .before .before .before .before .before .take .ensures .0) (c .before .before .before .before .before .before .before .before .take .ensures .1) in
-    omega (arith, go .room, out-length go)
+sub-answer-run-2 c = let g = took (c .before .before .before .before .before .before .before .before) .going in omega (arith, g .room, out-length g)
 
 part-answer-run-start-2 : tie.Need-part-answer-run-start-2 Inv-loop μ-loop
-part-answer-run-start-2 c =
-    let go = going-on (c .before .before .before .before .before .before .before .before .before .before .before .before .before .loop .inv) (c .before .before .before .before .before .before .before .before .before .before .before .before .loop-test .taken) (c .before .before .before .before .before .before .before .before .before .before .before .if1 .left) (c .before .before .before .before .before .before .before .before .take .result) _ (c .before .before .before .before .before .before .before .before .take .ensures .0) (c .before .before .before .before .before .before .before .before .take .ensures .1) in
-    omega (arith, go .room, out-length go)
+part-answer-run-start-2 c = let g = took (c .before .before .before .before .before .before .before .before) .going in omega (arith, g .room, out-length g)
 
 part-answer-run-end-2 : tie.Need-part-answer-run-end-2 Inv-loop μ-loop
 part-answer-run-end-2 c = omega arith
@@ -81,35 +99,26 @@ part-answer-run-end-2 c = omega arith
 answer-run-requires : tie.Need-answer-run-requires Inv-loop μ-loop
 answer-run-requires c κs = tt
 
+abbrev take-of : tie.After-answer-run Inv-loop μ-loop → tie.After-take Inv-loop μ-loop
+take-of r = r .before .before .before .before .before .before .before .before .before .before
+
 add-used-2 : tie.Need-add-used-2 Inv-loop μ-loop
 add-used-2 c =
-    let go = going-on (c .before .before .before .before .before .before .before .before .before .before .before .before .before .before .before .before .before .before .loop .inv) (c .before .before .before .before .before .before .before .before .before .before .before .before .before .before .before .before .before .loop-test .taken) (c .before .before .before .before .before .before .before .before .before .before .before .before .before .before .before .before .if1 .left) (c .before .before .before .before .before .before .before .before .before .before .before .before .before .take .result) _ (c .before .before .before .before .before .before .before .before .before .before .before .before .before .take .ensures .0) (c .before .before .before .before .before .before .before .before .before .before .before .before .before .take .ensures .1) in
-    let empty = emptied-on (c .before .before .before .before .before .before .before .before .before .before .before .before .before .before .before .before .before .before .loop .inv) (c .before .before .before .before .before .before .before .before .before .before .before .before .before .before .before .before .before .loop-test .taken) (c .before .before .before .before .before .before .before .before .before .before .before .before .before .before .before .before .if1 .left) (c .before .before .before .before .before .before .before .before .before .before .before .before .before .take .result) _ (c .before .before .before .before .before .before .before .before .before .before .before .before .before .take .ensures .0) (c .before .before .before .before .before .before .before .before .before .before .before .before .before .take .ensures .1) (c .before .before .before .before .before .before .if2 .taken) in
-    let run = c .before .before .before .answer-run in
-    omega (arith, c .before .before .before .before .before .before .before .before .before .before .before .before .before .before .before .before .before .before .before .before .before .good .1 .0 .0, run-within go empty (run .result) _ (run .ensures) .0)
-
-add-len-2 : tie.Need-add-len-2 Inv-loop μ-loop
-add-len-2 c =
-    let go = going-on (c .before .before .before .before .before .before .before .before .before .before .before .before .before .before .before .before .before .before .before .loop .inv) (c .before .before .before .before .before .before .before .before .before .before .before .before .before .before .before .before .before .before .loop-test .taken) (c .before .before .before .before .before .before .before .before .before .before .before .before .before .before .before .before .before .if1 .left) (c .before .before .before .before .before .before .before .before .before .before .before .before .before .before .take .result) _ (c .before .before .before .before .before .before .before .before .before .before .before .before .before .before .take .ensures .0) (c .before .before .before .before .before .before .before .before .before .before .before .before .before .before .take .ensures .1) in
-    let empty = emptied-on (c .before .before .before .before .before .before .before .before .before .before .before .before .before .before .before .before .before .before .before .loop .inv) (c .before .before .before .before .before .before .before .before .before .before .before .before .before .before .before .before .before .before .loop-test .taken) (c .before .before .before .before .before .before .before .before .before .before .before .before .before .before .before .before .before .if1 .left) (c .before .before .before .before .before .before .before .before .before .before .before .before .before .before .take .result) _ (c .before .before .before .before .before .before .before .before .before .before .before .before .before .before .take .ensures .0) (c .before .before .before .before .before .before .before .before .before .before .before .before .before .before .take .ensures .1) (c .before .before .before .before .before .before .before .if2 .taken) in
-    let run = c .before .before .before .before .answer-run in
-    omega (arith, c .before .before .before .before .before .before .before .before .before .before .before .before .before .before .before .before .before .before .before .before .before .before .good .1 .1 .0 .0, run-within go empty (run .result) _ (run .ensures) .1)
-
-loop-less : tie.Need-loop-less Inv-loop μ-loop
-loop-less c = omega (arith, c .before .before .before .before .before .before .before .before .before .before .before .before .before .before .before .before .before .before .loop-test .taken, step-used (c .before .before .before .before .before .before .before .before .before .before .before .before .before .before .before .before .before .before .before .loop .inv) (c .before .before .before .before .before .before .before .before .before .before .before .before .before .before .before .before .before .before .loop-test .taken) (c .before .before .before .before .before .before .before .before .before .before .before .before .before .before .before .before .before .if1 .left) (c .before .before .before .before .before .before .before .before .before .before .before .before .before .before .take .result) _ (c .before .before .before .before .before .before .before .before .before .before .before .before .before .before .take .ensures .0) (c .before .before .before .before .before .before .before .before .before .before .before .before .before .before .take .ensures .1) .1)
+    let r = c .before .before .before in
+    let t = took (take-of r) in
+    omega (arith, start-of (take-of r) .good .1 .0 .0, going-run (t .going) (t .emptied (r .before .before .before .if2 .taken)) (r .answer-run .result) _ (r .answer-run .ensures) .within)
 
 loop-again : tie.Need-loop-again Inv-loop μ-loop
 loop-again c =
-    let go = going-on (c .before .before .before .before .before .before .before .before .before .before .before .before .before .before .before .before .before .before .before .loop .inv) (c .before .before .before .before .before .before .before .before .before .before .before .before .before .before .before .before .before .before .loop-test .taken) (c .before .before .before .before .before .before .before .before .before .before .before .before .before .before .before .before .before .if1 .left) (c .before .before .before .before .before .before .before .before .before .before .before .before .before .before .take .result) _ (c .before .before .before .before .before .before .before .before .before .before .before .before .before .before .take .ensures .0) (c .before .before .before .before .before .before .before .before .before .before .before .before .before .before .take .ensures .1) in
-    let empty = emptied-on (c .before .before .before .before .before .before .before .before .before .before .before .before .before .before .before .before .before .before .before .loop .inv) (c .before .before .before .before .before .before .before .before .before .before .before .before .before .before .before .before .before .before .loop-test .taken) (c .before .before .before .before .before .before .before .before .before .before .before .before .before .before .before .before .before .if1 .left) (c .before .before .before .before .before .before .before .before .before .before .before .before .before .before .take .result) _ (c .before .before .before .before .before .before .before .before .before .before .before .before .before .before .take .ensures .0) (c .before .before .before .before .before .before .before .before .before .before .before .before .before .before .take .ensures .1) (c .before .before .before .before .before .before .before .if2 .taken) in
-    let run = c .before .before .before .before .answer-run in
-    going-run go empty (run .result) _ (run .ensures)
+    let r = c .before .before .before .before in
+    let t = took (take-of r) in
+    going-run (t .going) (t .emptied (r .before .before .before .if2 .taken)) (r .answer-run .result) _ (r .answer-run .ensures)
 
-loop-less-2 : tie.Need-loop-less-2 Inv-loop μ-loop
-loop-less-2 c = omega (arith, step-used (c .before .before .before .before .before .before .before .before .before .before .before .before .loop .inv) (c .before .before .before .before .before .before .before .before .before .before .before .loop-test .taken) (c .before .before .before .before .before .before .before .before .before .before .if1 .left) (c .before .before .before .before .before .before .before .take .result) _ (c .before .before .before .before .before .before .before .take .ensures .0) (c .before .before .before .before .before .before .before .take .ensures .1) .1)
+add-len-2 : tie.Need-add-len-2 Inv-loop μ-loop
+add-len-2 c = omega (arith, start-of (take-of (c .before .before .before .before)) .good .1 .1 .0 .0, loop-again c .room)
 
-loop-again-2 : tie.Need-loop-again-2 Inv-loop μ-loop
-loop-again-2 c = going-on (c .before .before .before .before .before .before .before .before .before .before .before .before .loop .inv) (c .before .before .before .before .before .before .before .before .before .before .before .loop-test .taken) (c .before .before .before .before .before .before .before .before .before .before .if1 .left) (c .before .before .before .before .before .before .before .take .result) _ (c .before .before .before .before .before .before .before .take .ensures .0) (c .before .before .before .before .before .before .before .take .ensures .1)
+loop-less : tie.Need-loop-less Inv-loop μ-loop
+loop-less c = let t = take-of (c .before .before .before .before) in omega (arith, t .before .before .before .before .loop-test .taken, took t .some)
 
 same-length-2 : tie.Need-same-length-2 Inv-loop μ-loop
 same-length-2 c = out-length (c .before .loop .inv)

@@ -5,7 +5,7 @@ use lib.ListN.{length, length-drop}
 use mathlib.Core.Path.{ap}
 use Rattle.words.proofs.Parts.{to-end}
 use Rattle.runs.specs.Runs.{Answers}
-use Rattle.runs.proofs.Frames.{no-frames, body-length, run-length, one-more-fits, one-more-frame}
+use Rattle.runs.proofs.Frames.{no-frames, body-length, run-length, one-more-frame}
 use Rattle.runs.proofs.answer_run.Statement.{statement}
 use Rattle.runs.proofs.answer_run.Tie as tie
 
@@ -71,23 +71,21 @@ part-answer-frame-end-2 c = omega arith
 
 answer-frame-requires : tie.Need-answer-frame-requires Inv-loop μ-loop
 answer-frame-requires c κs =
-    let s = c .before .before .before .before .before .before .loop in
-    ((λ k. body-length (c .before .before .before .before .before .before .before .before .before .args .piece .now) (s .used) (c .before .before .before .read-u16 .result) (omega arith)), omega (arith, ap length (to-end (s .len) (s .answers)), length-drop (s .len) (s .answers)))
-
-add-len : tie.Need-add-len Inv-loop μ-loop
-add-len c =
-    let l = c .before .before .before .before .before .before .before .before .before .loop in
-    let w = c .before .before .answer-frame in
-    omega (arith, c .before .before .before .before .before .before .before .before .before .before .before .before .good .1 .0 .0, one-more-fits (l .inv) (c .before .before .before .before .before .before .read-u16 .result) (omega arith) (c .before .before .before .before .before .before .read-u16 .ensures) (c .before .before .before .before .before .before .before .if1 .left) _ _ (w .ensures))
-
-loop-less : tie.Need-loop-less Inv-loop μ-loop
-loop-less c = omega arith
+    let r = c .before .before .before in
+    let l = r .before .before .before in
+    let s = l .loop in
+    ((λ k. body-length (l .before .before .before .args .piece .now) (s .used) (r .read-u16 .result) (omega arith)), omega (arith, ap length (to-end (s .len) (s .answers)), length-drop (s .len) (s .answers)))
 
 loop-again : tie.Need-loop-again Inv-loop μ-loop
 loop-again c =
-    let l = c .before .before .before .before .before .before .before .before .before .loop in
-    let w = c .before .before .answer-frame in
-    one-more-frame (l .inv) (c .before .before .before .before .before .before .read-u16 .result) (omega arith) (c .before .before .before .before .before .before .read-u16 .ensures) (c .before .before .before .before .before .before .before .if1 .left) _ _ (w .ensures)
+    let r = c .before .before .before .before .before .before in
+    one-more-frame (r .before .before .before .loop .inv) (r .read-u16 .result) (omega arith) (r .read-u16 .ensures) (r .before .if1 .left) _ _ (c .before .before .answer-frame .ensures)
+
+add-len : tie.Need-add-len Inv-loop μ-loop
+add-len c = omega (arith, c .before .before .before .before .before .before .before .before .before .before .before .before .good .1 .0 .0, loop-again c .fits)
+
+loop-less : tie.Need-loop-less Inv-loop μ-loop
+loop-less c = omega arith
 
 same-length-3 : tie.Need-same-length-3 Inv-loop μ-loop
 same-length-3 c = run-length (c .before .loop .inv)
