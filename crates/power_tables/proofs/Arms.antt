@@ -1,5 +1,5 @@
 -- The arms of a match on an index. Assumes nothing.
-use mathlib.Core.Path.{_≡_, sym, ap₂}
+use mathlib.Core.Path.{_≡_, sym, ap, _∙_}
 use mathlib.Core.List.{List}
 use Prim.Native.Nat.{ℕ, zero, suc, _<_, _≤_}
 use native.Mathlib.Omega.{arith}
@@ -7,9 +7,9 @@ use lib.ListN.{getD}
 use Rattle.pair.specs.declared.Pair.{Pair}
 use Rattle.power_tables.specs.Tables.{noPair}
 
--- the arm of an index reads the entry of that index
-pub arm : (k : ℕ) {t u : List Pair} {i : ℕ} → t ≡ u → i ≡ k → getD t k noPair ≡ getD u i noPair
-arm k e f = ap₂ (λ (v : List Pair) (n : ℕ). getD v n noPair) e (sym f)
+-- the arm of an index has the entry of that index
+pub arm : (table : List Pair) (k : ℕ) {i : ℕ} {p : Pair} → p ≡ getD table k noPair → i ≡ k → p ≡ getD table i noPair
+arm table k e h = e ∙ ap (λ (n : ℕ). getD table n noPair) (sym h)
 
 -- i is none of 0 to n - 1
 abbrev pub None : ℕ → ℕ → Type 0

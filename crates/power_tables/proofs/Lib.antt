@@ -1,2 +1,2 @@
--- What the readers of the tables share.
-pub mod Arms
+-- What the two functions share.
+mod Arms
