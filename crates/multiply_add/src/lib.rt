@@ -1,4 +1,4 @@
-// Fused multiply-add on 64-bit patterns. Each public call is total, and its contract is an equation with `fusedBits` of
+// Fused multiply-add on 64-bit patterns. The public call is total, and its contract is an equation with `fusedBits` of
 // ieee754's specs/Operations.antt. A NaN result is always 0x7ff8000000000000.
 //
 // The product of two significands lies in two words, and so does the addend, brought to the same number of digits. The
@@ -247,7 +247,7 @@ fn fused_special(dir: Direction, a: u64, b: u64, c: u64) -> u64
 
 // a * b + c, rounded once in the direction. `fused_nonzero` has this one caller, so that the compiler puts it here and
 // knows the direction.
-pub fn fused_in(dir: Direction, a: u64, b: u64, c: u64) -> u64
+fn fused_in(dir: Direction, a: u64, b: u64, c: u64) -> u64
     ensures { λ r. ⌜ r ≡ fusedBits dir a b c ⌝ }
 {
     if is_regular(a) {

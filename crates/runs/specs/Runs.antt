@@ -14,7 +14,8 @@ pub data Frames (room : ℕ) : List ℕ → List ℕ → Type 0 where
   more : {front answers : List ℕ} → Frames room front answers → (f : List ℕ) → length f ≡ 2 + bodyLength f → answerRoom ≤ room - length answers
       → Frames room (front ++ f) (answers ++ answerOf f .bytes)
 
--- what answer_run promises: the bytes used are whole frames, their answers fill the buffer's front, and the rest keeps its content
+-- what answer_run promises: the bytes used are whole frames, their answers fill the buffer's front, and the rest keeps its content. How many
+-- frames a run has is left free: take answers what is behind it
 pub record Answers (piece : List ℕ) (r : Run) (before after : List ℕ) : Type 0 where
   pub answers : List ℕ
   pub frames : Frames (length before) (take (r .used) piece) answers
