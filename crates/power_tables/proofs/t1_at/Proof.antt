@@ -1,76 +1,13 @@
--- `power_tables::t1_at` meets its contract: each arm has the entry of its own index. Assumes nothing.
+-- `power_tables::t1_at` meets its contract: the constant table is the definition's, number by number. Assumes nothing.
 use mathlib.Core.Path.{refl}
+use borrow.Author.Needs.{needs}
 use Rattle.power_tables.specs.Tables.{T1}
-use Rattle.power_tables.proofs.Arms.{arm, the-last}
 use Rattle.power_tables.proofs.t1_at.Statement.{statement}
 use Rattle.power_tables.proofs.t1_at.Tie as tie
 
-pub t1-at-spec : {M : Type 1} → statement M
+returns : tie.Need-returns
 unfolding T1
-t1-at-spec =
-    tie.close
-    (tie.spec
-    (λ c. arm T1 0 refl (c .match .keys1))
-    (λ c. arm T1 1 refl (c .match .keys2))
-    (λ c. arm T1 2 refl (c .match .keys3))
-    (λ c. arm T1 3 refl (c .match .keys4))
-    (λ c. arm T1 4 refl (c .match .keys5))
-    (λ c. arm T1 5 refl (c .match .keys6))
-    (λ c. arm T1 6 refl (c .match .keys7))
-    (λ c. arm T1 7 refl (c .match .keys8))
-    (λ c. arm T1 8 refl (c .match .keys9))
-    (λ c. arm T1 9 refl (c .match .keys10))
-    (λ c. arm T1 10 refl (c .match .keys11))
-    (λ c. arm T1 11 refl (c .match .keys12))
-    (λ c. arm T1 12 refl (c .match .keys13))
-    (λ c. arm T1 13 refl (c .match .keys14))
-    (λ c. arm T1 14 refl (c .match .keys15))
-    (λ c. arm T1 15 refl (c .match .keys16))
-    (λ c. arm T1 16 refl (c .match .keys17))
-    (λ c. arm T1 17 refl (c .match .keys18))
-    (λ c. arm T1 18 refl (c .match .keys19))
-    (λ c. arm T1 19 refl (c .match .keys20))
-    (λ c. arm T1 20 refl (c .match .keys21))
-    (λ c. arm T1 21 refl (c .match .keys22))
-    (λ c. arm T1 22 refl (c .match .keys23))
-    (λ c. arm T1 23 refl (c .match .keys24))
-    (λ c. arm T1 24 refl (c .match .keys25))
-    (λ c. arm T1 25 refl (c .match .keys26))
-    (λ c. arm T1 26 refl (c .match .keys27))
-    (λ c. arm T1 27 refl (c .match .keys28))
-    (λ c. arm T1 28 refl (c .match .keys29))
-    (λ c. arm T1 29 refl (c .match .keys30))
-    (λ c. arm T1 30 refl (c .match .keys31))
-    (λ c. arm T1 31 refl (c .match .keys32))
-    (λ c. arm T1 32 refl (c .match .keys33))
-    (λ c. arm T1 33 refl (c .match .keys34))
-    (λ c. arm T1 34 refl (c .match .keys35))
-    (λ c. arm T1 35 refl (c .match .keys36))
-    (λ c. arm T1 36 refl (c .match .keys37))
-    (λ c. arm T1 37 refl (c .match .keys38))
-    (λ c. arm T1 38 refl (c .match .keys39))
-    (λ c. arm T1 39 refl (c .match .keys40))
-    (λ c. arm T1 40 refl (c .match .keys41))
-    (λ c. arm T1 41 refl (c .match .keys42))
-    (λ c. arm T1 42 refl (c .match .keys43))
-    (λ c. arm T1 43 refl (c .match .keys44))
-    (λ c. arm T1 44 refl (c .match .keys45))
-    (λ c. arm T1 45 refl (c .match .keys46))
-    (λ c. arm T1 46 refl (c .match .keys47))
-    (λ c. arm T1 47 refl (c .match .keys48))
-    (λ c. arm T1 48 refl (c .match .keys49))
-    (λ c. arm T1 49 refl (c .match .keys50))
-    (λ c. arm T1 50 refl (c .match .keys51))
-    (λ c. arm T1 51 refl (c .match .keys52))
-    (λ c. arm T1 52 refl (c .match .keys53))
-    (λ c. arm T1 53 refl (c .match .keys54))
-    (λ c. arm T1 54 refl (c .match .keys55))
-    (λ c. arm T1 55 refl (c .match .keys56))
-    (λ c. arm T1 56 refl (c .match .keys57))
-    (λ c. arm T1 57 refl (c .match .keys58))
-    (λ c. arm T1 58 refl (c .match .keys59))
-    (λ c. arm T1 59 refl (c .match .keys60))
-    (λ c. arm T1 60 refl (c .match .keys61))
-    (λ c. arm T1 61 refl (c .match .keys62))
-    (λ c. arm T1 62 refl (c .match .keys63))
-    (λ c. arm T1 63 refl (the-last 63 _ (c .match .rest) (c .before .pre))))
+returns c = refl
+
+pub t1-at-spec : {M : Type 1} → statement M
+t1-at-spec = tie.close (tie.spec (λ c. search needs) (λ c. search needs) returns)

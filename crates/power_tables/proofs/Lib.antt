@@ -1,2 +1,0 @@
--- What the two functions share.
-mod Arms
