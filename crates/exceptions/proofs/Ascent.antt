@@ -1,87 +1,77 @@
--- The table's rule, computed once over the whole table: every x is finite, and below the x of the next entry unless the entry is the last of its stretch. One law carries
--- it to any two entries of a stretch (document 01: "each strictly ascending by x"). Assumes nothing.
-use mathlib.Core.Path.{_≡_, sym, subst}
-use mathlib.Core.Bool.{Bool, true, false, _&&_, _||_}
+-- The rule of the table, computed once for each stretch and carried to any two entries of it. Assumes nothing.
+use mathlib.Core.Path.{refl, subst}
+use mathlib.Core.Bool.{Bool, true, _&&_}
 use mathlib.Core.Logic.{inl, inr}
-use Prim.Native.Nat.{ℕ, zero, suc, _<_, _≤_}
-use native.Mathlib.Nat.{eq-or-lt-of-le, le-of-suc-le-suc, not-suc-le-zero}
+use Prim.Native.Nat.{ℕ, zero, suc, _+_, _-_, _<_, _≤_}
+use native.Mathlib.Nat.{eq-or-lt-of-le}
 use native.Mathlib.Omega.{arith}
-use lib.Dec.{T, eqb, eqb→eq}
-use lib.Ieee as Ieee
+use lib.Dec.{T}
 use lib.Ieee.{lt, ofBits}
 use lib.Ieee.Scale.{finite}
 use lib.Ieee.Fits.{and-l, and-r}
 use Rattle.exceptions.specs.Table.{exceptions}
 use Rattle.exceptions.specs.declared.Stretch.{Stretch}
 use Rattle.exceptions.specs.declared.Stretch.the-variants.{First, Tiny, Wide}
-use Rattle.exceptions.specs.Lookup.{input, start, end}
+use Rattle.exceptions.specs.Lookup.{input, start, end, Ascending}
 use Rattle.exceptions.proofs.Order.{lt-trans}
 
-allBelow : ℕ → (ℕ → Bool) → Bool
-allBelow zero f = true
-allBelow (suc n) f = f n && allBelow n f
+-- of the n entries after i each is finite and above the one before it
+rises : ℕ → ℕ → Bool
+rises i zero = true
+rises i (suc n) = lt (input i) (input (suc i)) && (finite (input (suc i)) && rises (suc i) n)
 
-at : (n : ℕ) (f : ℕ → Bool) → T (allBelow n f) → (i : ℕ) → i < n → T (f i)
-unfolding allBelow
-at zero f h i k = absurd (not-suc-le-zero k)
-at (suc n) f h i k =
-    elim (eq-or-lt-of-le (le-of-suc-le-suc k)) [
-      | inl p ↦ subst (λ (m : ℕ). T (f m)) (sym p) (and-l (f n) (allBelow n f) h)
-      | inr q ↦ at n f (and-r (f n) (allBelow n f) h) i q
+table : (s : Stretch) → T (finite (input (start s)) && rises (start s) (end s - suc (start s)))
+unfolding rises input exceptions lt ofBits
+table First = tt
+table Tiny = tt
+table Wide = tt
+
+above : (n i : ℕ) → T (finite (input i)) → T (rises i n) → (j : ℕ) → i < j → j ≤ i + n → T (lt (input i) (input j)) × T (finite (input j))
+unfolding rises
+above zero i F R j p q = let z : ⊥ = omega arith in absurd z
+above (suc n) i F R j p q =
+    let l = and-l (lt (input i) (input (suc i))) _ R in
+    let r = and-r (lt (input i) (input (suc i))) _ R in
+    let f = and-l (finite (input (suc i))) _ r in
+    elim (eq-or-lt-of-le p) [
+      | inl e ↦ subst (λ (k : ℕ). T (lt (input i) (input k)) × T (finite (input k))) e (l, f)
+      | inr k ↦
+          let h = above n (suc i) f (and-r (finite (input (suc i))) _ r) j k (omega arith) in
+          (lt-trans (input i) (input (suc i)) (input j) F f (h .1) l (h .0), h .1)
     ]
 
--- the last entry of a stretch
-last : ℕ → Bool
-last k = eqb k 55 || (eqb k 114 || eqb k 207)
+between : (n a : ℕ) → T (finite (input a)) → T (rises a n) → (i j : ℕ) → a ≤ i → i < j → j ≤ a + n → T (lt (input i) (input j))
+unfolding rises
+between zero a F R i j o p q = let z : ⊥ = omega arith in absurd z
+between (suc n) a F R i j o p q =
+    let r = and-r (lt (input a) (input (suc a))) _ R in
+    elim (eq-or-lt-of-le o) [
+      | inl e ↦ subst (λ (k : ℕ). T (lt (input k) (input j))) e (above (suc n) a F R j (omega arith) q .0)
+      | inr k ↦ between n (suc a) (and-l (finite (input (suc a))) _ r) (and-r (finite (input (suc a))) _ r) i j k p (omega arith)
+    ]
 
-right : ℕ → Bool
-right k = finite (input k) && (last k || lt (input k) (input (suc k)))
+pub ascending : Ascending
+unfolding exceptions
+ascending = record {
+  first = refl;
+  tiny = refl;
+  wide = refl;
+  whole = refl;
+  finite-at = λ s i p q.
+      elim (eq-or-lt-of-le p) [
+        | inl e ↦ subst (λ (k : ℕ). T (finite (input k))) e (starts s)
+        | inr k ↦ above (end s - suc (start s)) (start s) (starts s) (goes-on s) i k (omega arith) .1
+      ];
+  ascends = λ s i j o p q. between (end s - suc (start s)) (start s) (starts s) (goes-on s) i j o p (omega arith);
+}
+  where
+    starts : (s : Stretch) → T (finite (input (start s)))
+    starts s = and-l (finite (input (start s))) _ (table s)
 
-table : T (allBelow 208 right)
-unfolding allBelow right last input exceptions lt ofBits
-table = tt
-
-pub finite-at : (k : ℕ) → k < 208 → T (finite (input k))
-unfolding right
-finite-at k h = and-l (finite (input k)) (last k || lt (input k) (input (suc k))) (at 208 right table k h)
-
-or-not : (a b : Bool) → (T a → ⊥) → T (a || b) → T b
-or-not true b n h = absurd (n tt)
-or-not false b n h = h
-
-or-none : (a b : Bool) → (T a → ⊥) → (T b → ⊥) → T (a || b) → ⊥
-or-none true b n m h = n tt
-or-none false b n m h = m h
-
-not-last : (k : ℕ) → (k ≡ 55 → ⊥) → (k ≡ 114 → ⊥) → (k ≡ 207 → ⊥) → T (last k) → ⊥
-unfolding last
-not-last k p q r =
-    or-none (eqb k 55) (eqb k 114 || eqb k 207) (λ t. p (eqb→eq k 55 t))
-    (or-none (eqb k 114) (eqb k 207) (λ t. q (eqb→eq k 114 t)) (λ t. r (eqb→eq k 207 t)))
-
-inside : (s : Stretch) (k : ℕ) → start s ≤ k → suc k < end s → T (last k) → ⊥
-inside First k a b = not-last k (λ p. omega arith) (λ p. omega arith) (λ p. omega arith)
-inside Tiny k a b = not-last k (λ p. omega arith) (λ p. omega arith) (λ p. omega arith)
-inside Wide k a b = not-last k (λ p. omega arith) (λ p. omega arith) (λ p. omega arith)
+    goes-on : (s : Stretch) → T (rises (start s) (end s - suc (start s)))
+    goes-on s = and-r (finite (input (start s))) _ (table s)
 
 pub end-le : (s : Stretch) → end s ≤ 208
 end-le First = omega arith
 end-le Tiny = omega arith
 end-le Wide = omega arith
-
-step : (s : Stretch) (k : ℕ) → start s ≤ k → suc k < end s → T (lt (input k) (input (suc k)))
-unfolding right
-step s k a b =
-    let u = end-le s in
-    or-not (last k) (lt (input k) (input (suc k))) (inside s k a b) (and-r (finite (input k)) (last k || lt (input k) (input (suc k))) (at 208 right table k (omega arith)))
-
-pub ascends : (s : Stretch) (i j : ℕ) → start s ≤ i → i < j → j < end s → T (lt (input i) (input j))
-ascends s i zero a b d = absurd (not-suc-le-zero b)
-ascends s i (suc j) a b d =
-    let u = end-le s in
-    elim (eq-or-lt-of-le (le-of-suc-le-suc b)) [
-      | inl p ↦ subst (λ (m : ℕ). T (lt (input m) (input (suc j)))) (sym p) (step s j (omega arith) d)
-      | inr q ↦
-          lt-trans (input i) (input j) (input (suc j)) (finite-at i (omega arith)) (finite-at j (omega arith)) (finite-at (suc j) (omega arith))
-          (ascends s i j a q (omega arith)) (step s j (omega arith) d)
-    ]

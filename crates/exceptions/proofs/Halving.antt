@@ -2,17 +2,20 @@
 use mathlib.Core.Path.{_≡_, sym, ap, _∙_, subst}
 use mathlib.Core.Bool.{Bool, true, false, not}
 use mathlib.Core.Logic.{inl, inr}
-use Prim.Native.Nat.{ℕ, suc, _+_, _-_, _/_, _<_, _≤_}
+use mathlib.Core.List.{List}
+use Prim.Native.Nat.{ℕ, suc, _+_, _-_, _*_, _/_, _<_, _≤_}
 use native.Mathlib.Nat.{eq-or-lt-of-le}
 use native.Mathlib.Omega.{arith}
 use lib.Dec.{T}
-use lib.Ieee.{Float, eq, lt}
+use lib.ListN.{getD}
+use lib.Ieee.{Float, nan, binary64, add, eq, lt}
 use lib.Ieee.Scale.{finite}
+use Rattle.exceptions.specs.Table.{exceptions}
 use Rattle.exceptions.specs.declared.Found.{Found}
 use Rattle.exceptions.specs.declared.Found.the-variants.{Reply, Nothing}
 use Rattle.exceptions.specs.Lookup.{input, reply, scan, Part}
 use Rattle.exceptions.proofs.Order.{miss-below, miss-above, miss-at, hit-not-below}
-use Rattle.exceptions.proofs.Ascent.{finite-at, ascends, end-le}
+use Rattle.exceptions.proofs.Ascent.{ascending, end-le}
 use Rattle.exceptions.proofs.Scan.{none, skip, cut, hit}
 
 yes : {b : Bool} → b ≡ true → T b
@@ -27,52 +30,57 @@ never b e t = subst T e t
 abbrev pub middle : ℕ → ℕ → ℕ
 middle first past = first + (past - first) / 2
 
--- y is x of the middle entry, and v its reply
-module _ (first past : ℕ) (x : Float) (S : Part first past) (h : first < past) where
+-- one look at the table's middle entry
+module _ (table : List Float) (E : table ≡ exceptions) (first past : ℕ) (x : Float) (S : Part first past) (h : first < past) where
   m : ℕ
   m = middle first past
 
   -- the entries i and j of the part, i the smaller
   rises : (i j : ℕ) → first ≤ i → i < j → j < past → T (lt (input i) (input j))
-  rises i j p q r = let a = S .from in let b = S .upto in ascends (S .of) i j (omega arith) q (omega arith)
+  rises i j p q r = let a = S .from in let b = S .upto in ascending .ascends (S .of) i j (omega arith) q (omega arith)
 
-  is-finite : (i : ℕ) → i < past → T (finite (input i))
-  is-finite i q = let b = S .upto in let u = end-le (S .of) in finite-at i (omega arith)
+  is-finite : (i : ℕ) → first ≤ i → i < past → T (finite (input i))
+  is-finite i p q = let a = S .from in let b = S .upto in ascending .finite-at (S .of) i (omega arith) (omega arith)
 
-  pub hit-at : {y v : Float} → y ≡ input (middle first past) → v ≡ reply (middle first past) → eq x y ≡ true → Reply v ≡ scan first (past - first) x
+  finite-m : T (finite (input m))
   unfolding m
-  hit-at k l e =
-      let e' = subst (λ (z : Float). eq x z ≡ true) k e in
-      ap Reply l
+  finite-m = is-finite m (omega arith) (omega arith)
+
+  pub hit-at : eq x (getD table (middle first past * 3) nan) ≡ true
+      → Reply (add binary64 (getD table (middle first past * 3 + 1) nan) (getD table (middle first past * 3 + 2) nan)) ≡ scan first (past - first) x
+  unfolding m input reply
+  hit-at e =
+      let e' = subst (λ (t : List Float). eq x (getD t (m * 3) nan) ≡ true) E e in
+      ap (λ (t : List Float). Reply (add binary64 (getD t (m * 3 + 1) nan) (getD t (m * 3 + 2) nan))) E
       ∙ sym (hit x (m - first) (past - suc m) (past - first) first m (omega arith) (omega arith)
-      (λ j p q. miss-below x (input j) (input m) (is-finite j (omega arith)) (is-finite m (omega arith)) (rises j m p q (omega arith)) (hit-not-below x (input m) (is-finite m (omega arith)) (yes e'))) e')
+      (λ j p q. miss-below x (input j) (input m) (is-finite j p (omega arith)) finite-m (rises j m p q (omega arith)) (hit-not-below x (input m) finite-m (yes e'))) e')
 
-  pub left-at : {y : Float} {r : Found} → y ≡ input (middle first past) → lt x y ≡ true → r ≡ scan first (middle first past - first) x → r ≡ scan first (past - first) x
-  unfolding m
-  left-at k e r =
-      let e' = subst (λ (z : Float). lt x z ≡ true) k e in
+  pub left-at : {r : Found} → lt x (getD table (middle first past * 3) nan) ≡ true → r ≡ scan first (middle first past - first) x → r ≡ scan first (past - first) x
+  unfolding m input
+  left-at e r =
+      let e' = subst (λ (t : List Float). lt x (getD t (m * 3) nan) ≡ true) E e in
       r
       ∙ sym (cut x (m - first) (past - first) first (omega arith)
       (λ j p q.
       let p' : m ≤ j = omega arith in
       elim (eq-or-lt-of-le p') [
-        | inl o ↦ subst (λ (i : ℕ). T (eq x (input i)) → ⊥) o (miss-at x (input m) (is-finite m (omega arith)) (yes e'))
-        | inr o ↦ miss-above x (input j) (input m) (is-finite j (omega arith)) (is-finite m (omega arith)) (rises m j (omega arith) o (omega arith)) (yes e')
+        | inl o ↦ subst (λ (i : ℕ). T (eq x (input i)) → ⊥) o (miss-at x (input m) finite-m (yes e'))
+        | inr o ↦ miss-above x (input j) (input m) (is-finite j (omega arith) (omega arith)) finite-m (rises m j (omega arith) o (omega arith)) (yes e')
       ]))
 
-  pub right-at : {y : Float} {r : Found} → y ≡ input (middle first past) → eq x y ≡ false → lt x y ≡ false → r ≡ scan (middle first past + 1) (past - (middle first past + 1)) x
-      → r ≡ scan first (past - first) x
-  unfolding m
-  right-at k d e r =
-      let d' = subst (λ (z : Float). eq x z ≡ false) k d in
-      let e' = subst (λ (z : Float). lt x z ≡ false) k e in
+  pub right-at : {r : Found} → eq x (getD table (middle first past * 3) nan) ≡ false → lt x (getD table (middle first past * 3) nan) ≡ false
+      → r ≡ scan (middle first past + 1) (past - (middle first past + 1)) x → r ≡ scan first (past - first) x
+  unfolding m input
+  right-at d e r =
+      let d' = subst (λ (t : List Float). eq x (getD t (m * 3) nan) ≡ false) E d in
+      let e' = subst (λ (t : List Float). lt x (getD t (m * 3) nan) ≡ false) E e in
       r
       ∙ sym (skip x (m + 1 - first) (past - (m + 1)) (past - first) first (m + 1) (omega arith) (omega arith)
       (λ j p q.
       let q' : j ≤ m = omega arith in
       elim (eq-or-lt-of-le q') [
         | inl o ↦ subst (λ (i : ℕ). T (eq x (input i)) → ⊥) (sym o) (never (eq x (input m)) d')
-        | inr o ↦ miss-below x (input j) (input m) (is-finite j (omega arith)) (is-finite m (omega arith)) (rises j m p o (omega arith)) (nay e')
+        | inr o ↦ miss-below x (input j) (input m) (is-finite j p (omega arith)) finite-m (rises j m p o (omega arith)) (nay e')
       ]))
 
 pub empty : (first past : ℕ) (x : Float) → past ≤ first → Nothing ≡ scan first (past - first) x

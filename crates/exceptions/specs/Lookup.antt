@@ -1,9 +1,11 @@
 -- What a lookup finds (document 01, "Exception entries"). Definitions only.
+use mathlib.Core.Path.{_≡_}
 use mathlib.Core.Bool.{cond}
 use Prim.Native.Nat.{ℕ, zero, suc, _+_, _-_, _*_, _≤_, _<_}
 use lib.Dec.{T}
-use lib.ListN.{getD}
-use lib.Ieee.{Float, nan, binary64, add, eq}
+use lib.ListN.{getD, length}
+use lib.Ieee.{Float, nan, binary64, add, eq, lt}
+use lib.Ieee.Scale.{finite}
 use Rattle.exceptions.specs.Table.{exceptions}
 use Rattle.exceptions.specs.declared.Stretch.{Stretch}
 use Rattle.exceptions.specs.declared.Stretch.the-variants.{First, Tiny, Wide}
@@ -27,6 +29,16 @@ abbrev pub end : Stretch → ℕ
 end First = 56
 end Tiny = 115
 end Wide = 208
+
+-- The rule of the table (document 01: "one table in three stretches, each strictly ascending by x"): the stretches follow each other and are all of it, and of two entries of one
+-- stretch the later has the greater x.
+pub record Ascending : Type 0 where
+  pub first : start First ≡ 0
+  pub tiny : start Tiny ≡ end First
+  pub wide : start Wide ≡ end Tiny
+  pub whole : length exceptions ≡ end Wide * 3
+  pub finite-at : (s : Stretch) (i : ℕ) → start s ≤ i → i < end s → T (finite (input i))
+  pub ascends : (s : Stretch) (i j : ℕ) → start s ≤ i → i < j → j < end s → T (lt (input i) (input j))
 
 -- the first of the n entries from i on whose x equals the given one
 unfoldable pub scan : ℕ → ℕ → Float → Found

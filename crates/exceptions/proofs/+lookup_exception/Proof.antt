@@ -7,36 +7,30 @@ use borrow.Fn.PlainCycle.{Measures, is, falls, and}
 use Rattle.exceptions.proofs.lookup_exception.Reads as lookup-exception
 use Rattle.exceptions.proofs.lookup_exception.Kinds as lookup-exception-kinds
 use Rattle.exceptions.proofs.+lookup_exception.Lts-lookup_exception as lookup-exception-lts
-use Rattle.exceptions.proofs.input_at.Reads as input-at-reads
-use Rattle.exceptions.proofs.reply_at.Reads as reply-at-reads
 use Rattle.exceptions.proofs.+lookup_exception.{statement}
 use Rattle.exceptions.proofs.+lookup_exception.Tie.{close}
 
-abbrev μ-lookup-exception : Measures 0 lookup-exception-kinds.ps ℕ
-μ-lookup-exception κs a = a .1 .0 - a .0
+abbrev μ-lookup-exception : Measures 1 lookup-exception-kinds.ps ℕ
+μ-lookup-exception κs a = a .1 .1 .0 - a .1 .0
 
-abbrev lookup-exception-at : ℕ → In 0 lookup-exception-kinds.ps
+abbrev lookup-exception-at : ℕ → In 1 lookup-exception-kinds.ps
 lookup-exception-at t =
     and
-    0
+    1
     lookup-exception-kinds.ps
-    (is 0 lookup-exception-kinds.ps μ-lookup-exception t)
+    (is 1 lookup-exception-kinds.ps μ-lookup-exception t)
     lookup-exception.Pre
 
-abbrev lookup-exception-below : ℕ → In 0 lookup-exception-kinds.ps
+abbrev lookup-exception-below : ℕ → In 1 lookup-exception-kinds.ps
 lookup-exception-below t =
     and
-    0
+    1
     lookup-exception-kinds.ps
-    (falls 0 lookup-exception-kinds.ps _<_ μ-lookup-exception t)
+    (falls 1 lookup-exception-kinds.ps _<_ μ-lookup-exception t)
     lookup-exception.Pre
 
 pub +lookup-exception-spec : {M : Type 1} → statement M
 +lookup-exception-spec = close μ-lookup-exception λ t. lookup-exception-lts.spec (
-  input-at-reads.Asked,
-  input-at-reads.Learnt,
-  reply-at-reads.Asked,
-  reply-at-reads.Learnt,
   lookup-exception-below t,
   lookup-exception.Post,
 )
@@ -46,28 +40,35 @@ pub +lookup-exception-spec : {M : Type 1} → statement M
     (λ c. empty _ _ _ (c .if1 .taken))
     -- the middle entry is one of the table
     (λ c. omega arith)
-    (λ c. record { fits = omega (arith, part-end (c .before .pre .1)) })
-    (λ c κs. omega (arith, part-end (c .before .pre .1)))
-    (λ c κs. let s = c .before .before .before in omega (arith, part-end (s .pre .1)))
+    (λ c. record { fits = omega (arith, part-end (c .before .pre .1 .1)) })
+    (λ c. record { fits = omega (arith, part-end (c .before .pre .1 .1)) })
+    (λ c. record { fits = omega (arith, part-end (c .before .pre .1 .1)) })
+    (λ c. omega (arith, part-end (c .before .pre .1 .1)))
     -- it is x
+    (λ c. record { fits = omega (arith, part-end (c .before .before .before .pre .1 .1)) })
+    (λ c. record { fits = omega (arith, part-end (c .before .before .before .pre .1 .1)) })
+    (λ c. omega (arith, part-end (c .before .before .before .pre .1 .1)))
+    (λ c. record { fits = omega (arith, part-end (c .before .before .before .before .pre .1 .1)) })
+    (λ c. record { fits = omega (arith, part-end (c .before .before .before .before .pre .1 .1)) })
+    (λ c. omega (arith, part-end (c .before .before .before .before .pre .1 .1)))
     (λ c.
-    let c2 = c .before .before in
-    let s = c2 .before .before in
-    hit-at _ _ _ (s .pre .1) (c2 .before .if1 .left) (c2 .input-at .ensures) (c .reply-at .ensures) (c .before .if2 .taken))
+    let c3 = c .before .before .before .before in
+    let s = c3 .before in
+    hit-at _ (s .pre .1 .0) _ _ _ (s .pre .1 .1) (c3 .if1 .left) (c .before .before .if2 .taken))
     -- x lies below it
     (λ c κs.
     let s = c .before .before .before .before in
-    (let h = s .pre .0 in omega arith, narrow _ _ (omega arith) (omega arith) (s .pre .1)))
+    (let h = s .pre .0 in omega arith, (s .pre .1 .0, narrow _ _ (omega arith) (omega arith) (s .pre .1 .1))))
     (λ c.
-    let c3 = c .before .before .before in
-    let s = c3 .before .before in
-    left-at _ _ _ (s .pre .1) (c3 .before .if1 .left) (c3 .input-at .ensures) (c .before .if3 .taken) (c .lookup-exception .ensures))
+    let c3 = c .before .before .before .before in
+    let s = c3 .before in
+    left-at _ (s .pre .1 .0) _ _ _ (s .pre .1 .1) (c3 .if1 .left) (c .before .if3 .taken) (c .lookup-exception .ensures))
     -- x lies above it
-    (λ c. record { fits = omega (arith, part-end (c .before .before .before .before .pre .1)) })
+    (λ c. record { fits = omega (arith, part-end (c .before .before .before .before .pre .1 .1)) })
     (λ c κs.
     let s = c .before .before .before .before in
-    (let h = s .pre .0 in omega arith, narrow _ _ (omega arith) (omega arith) (s .pre .1)))
+    (let h = s .pre .0 in omega arith, (s .pre .1 .0, narrow _ _ (omega arith) (omega arith) (s .pre .1 .1))))
     (λ c.
-    let c3 = c .before .before .before in
-    let s = c3 .before .before in
-    right-at _ _ _ (s .pre .1) (c3 .before .if1 .left) (c3 .input-at .ensures) (c .before .before .if2 .left) (c .before .if3 .left) (c .lookup-exception2 .ensures))
+    let c3 = c .before .before .before .before in
+    let s = c3 .before in
+    right-at _ (s .pre .1 .0) _ _ _ (s .pre .1 .1) (c3 .if1 .left) (c .before .before .if2 .left) (c .before .if3 .left) (c .lookup-exception2 .ensures))

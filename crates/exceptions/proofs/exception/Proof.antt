@@ -1,9 +1,10 @@
--- `exceptions::exception` meets its contract: the scan of a stretch finds what it should (Scan). Assumes nothing.
-use mathlib.Core.Path.{_≡_, sym, subst}
+-- `exceptions::exception` meets its contract: the constant table is the definition's, number by number, and the scan of a stretch finds what it should (Scan). Assumes nothing.
+use mathlib.Core.Path.{_≡_, refl, sym, subst}
 use Prim.Native.Nat.{ℕ, _-_}
 use native.Mathlib.Nat.{le-of-eq}
 use borrow.Author.Needs.{needs}
-use lib.Ieee.{Float}
+use lib.Ieee.{Float, ofBits}
+use Rattle.exceptions.specs.Table.{exceptions}
 use Rattle.exceptions.specs.declared.Stretch.{Stretch}
 use Rattle.exceptions.specs.declared.Found.{Found}
 use Rattle.exceptions.specs.Lookup.{start, end, scan, find, Finds}
@@ -11,15 +12,16 @@ use Rattle.exceptions.proofs.Scan.{finds}
 use Rattle.exceptions.proofs.exception.Statement.{statement}
 use Rattle.exceptions.proofs.exception.Tie as tie
 
-start-of-requires : tie.Need-start-of-requires
-start-of-requires c κs = search needs
-
-end-of-requires : tie.Need-end-of-requires
-end-of-requires c κs = search needs
-
 lookup-exception-requires : tie.Need-lookup-exception-requires
-lookup-exception-requires c κs =
-    record { of = c .before .before .args .stretch; from = le-of-eq (sym (c .before .start-of .ensures)); upto = le-of-eq (c .end-of .ensures) }
+unfolding exceptions
+lookup-exception-requires c κs = (
+  refl,
+  record {
+    of = c .before .before .before .args .stretch;
+    from = le-of-eq (sym (c .before .before .start-of .ensures));
+    upto = le-of-eq (c .before .end-of .ensures);
+  },
+)
 
 found : (s : Stretch) (x : Float) {a b : ℕ} {r : Found} → a ≡ start s → b ≡ end s → r ≡ scan a (b - a) x → r ≡ find s x
 unfolding find
@@ -27,9 +29,9 @@ found s x p q e = cc
 
 returns : tie.Need-returns
 returns c =
-    let s = c .before .before .before in
-    let e = found (s .args .stretch) (s .args .x) (c .before .before .start-of .ensures) (c .before .end-of .ensures) (c .lookup-exception .ensures) in
+    let s = c .before .before .before .before in
+    let e = found (s .args .stretch) (s .args .x) (c .before .before .before .start-of .ensures) (c .before .before .end-of .ensures) (c .lookup-exception .ensures) in
     (e, subst (λ (r : Found). Finds (s .args .stretch) (s .args .x) r) (sym e) (finds (s .args .stretch) (s .args .x)))
 
 pub exception-spec : {M : Type 1} → statement M
-exception-spec = tie.close (tie.spec start-of-requires end-of-requires lookup-exception-requires returns)
+exception-spec = tie.close (tie.spec (λ c κs. search needs) (λ c κs. search needs) lookup-exception-requires returns)
