@@ -1,4 +1,4 @@
--- The rule of the table, computed once for each stretch and carried to any two entries of it. Assumes nothing.
+-- The order of the table: computed over each stretch and carried to any two of its entries. Assumes nothing.
 use mathlib.Core.Path.{refl, subst}
 use mathlib.Core.Bool.{Bool, true, _&&_}
 use mathlib.Core.Logic.{inl, inr}

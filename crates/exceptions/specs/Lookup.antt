@@ -1,4 +1,4 @@
--- What a lookup finds (document 01, "Exception entries"). Definitions only.
+-- The order of the table and what a lookup finds (document 01, "Exception entries"). Definitions only.
 use mathlib.Core.Path.{_≡_}
 use mathlib.Core.Bool.{cond}
 use Prim.Native.Nat.{ℕ, zero, suc, _+_, _-_, _*_, _≤_, _<_}
@@ -30,8 +30,8 @@ end First = 56
 end Tiny = 115
 end Wide = 208
 
--- The rule of the table (document 01: "one table in three stretches, each strictly ascending by x"): the stretches follow each other and are all of it, and of two entries of one
--- stretch the later has the greater x.
+-- "one table in three stretches, each strictly ascending by x, shown for the whole table together": the stretches follow each other from the first number to the last, and of two
+-- entries of a stretch the later has the greater x
 pub record Ascending : Type 0 where
   pub first : start First ≡ 0
   pub tiny : start Tiny ≡ end First

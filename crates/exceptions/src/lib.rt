@@ -1,7 +1,7 @@
 // The exceptional cases of exp2m1, hard to round with double-double arithmetic, and their lookup.
 //
 // exception promises the reply of the entry of a stretch whose x equals the one asked for, or that there is no such entry
-// (specs/Lookup.antt). The entries are those of specs/Table.antt.
+// (specs/Lookup.antt). The entries are those of specs/Table.antt; each stretch of them ascends strictly by x (Ascending).
 
 mod table;
 
@@ -74,5 +74,6 @@ pub fn exception(stretch: Stretch, x: f64) -> Found
 {
     let first = start_of(stretch);
     let past = end_of(stretch);
+    // A constant array is made anew wherever it is named: once here, and lent to every step of the search.
     lookup_exception(&EXCEPTIONS, first, past, x)
 }

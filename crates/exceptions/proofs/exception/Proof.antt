@@ -3,7 +3,7 @@ use mathlib.Core.Path.{_≡_, refl, sym, subst}
 use Prim.Native.Nat.{ℕ, _-_}
 use native.Mathlib.Nat.{le-of-eq}
 use borrow.Author.Needs.{needs}
-use lib.Ieee.{Float, ofBits}
+use lib.Ieee.{Float}
 use Rattle.exceptions.specs.Table.{exceptions}
 use Rattle.exceptions.specs.declared.Stretch.{Stretch}
 use Rattle.exceptions.specs.declared.Found.{Found}
