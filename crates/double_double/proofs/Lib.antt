@@ -7,4 +7,7 @@ pub mod Units
 pub mod TwoSum
 pub mod Nearest
 pub mod TwoProduct
+pub mod Scaled
+pub mod Dekker
+pub mod Halves
 pub mod Chains

@@ -1,3 +1,4 @@
 -- What the contracts of this crate say.
 pub mod Pairs
 pub mod Exactness
+pub mod Machine

@@ -6,7 +6,6 @@ use borrow.Author.Needs.{needs}
 use Rattle.pair.specs.Pair.{pair}
 use Rattle.double_double.specs.Pairs.{aMul}
 use Rattle.double_double.specs.Exactness.{ProductExact}
-use Rattle.double_double.proofs.Chains.{link}
 use Rattle.double_double.proofs.TwoProduct.{a-mul-exact}
 use Rattle.double_double.proofs.a_mul.Statement.{statement}
 use Rattle.double_double.proofs.a_mul.Tie as tie
@@ -14,13 +13,12 @@ use Rattle.double_double.proofs.a_mul.Tie as tie
 returns : tie.Need-returns
 unfolding aMul
 returns c =
-    let c2 = c .before .before in
-    let s = c2 .before .before in
+    let s = c .before .before in
     let a = s .args .a in
     let b = s .args .b in
-    let e = c .from-bits .ensures ∙ link (c2 .before .pattern .ensures) (c2 .pattern2 .ensures) refl (c .before .error-bits .ensures) in
+    let e = c .from-bits .ensures ∙ c .before .error-bits .ensures in
     subst (λ (lo : Float). (pair (mul binary64 a b) lo ≡ aMul a b) × ProductExact a b (pair (mul binary64 a b) lo)) (sym e)
     (refl, a-mul-exact a b (subst T (sym (s .good .0 .1)) tt) (subst T (sym (s .good .1 .0 .1)) tt))
 
 pub a-mul-spec : {M : Type 1} → statement M
-a-mul-spec = tie.close (tie.spec (λ c κs. search needs) (λ c κs. search needs) (λ c κs. search needs) (λ c κs. search needs) returns)
+a-mul-spec = tie.close (tie.spec (λ c κs. search needs) (λ c κs. search needs) returns)

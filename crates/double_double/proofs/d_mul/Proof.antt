@@ -1,5 +1,5 @@
 -- `double_double::d_mul` meets its contract: a chain of fmas from the error of the product. Assumes nothing.
-use mathlib.Core.Path.{refl, ap, _∙_}
+use mathlib.Core.Path.{ap, _∙_}
 use lib.Ieee.{Float, binary64, mul}
 use borrow.Author.Needs.{needs}
 use Rattle.pair.specs.Pair.{pair}
@@ -18,8 +18,7 @@ returns c =
     let c6 = c5 .before in
     let c7 = c6 .before in
     let s = c7 .before .before .before in
-    let e = link (c7 .pattern .ensures) (c6 .pattern2 .ensures) refl (c5 .error-bits .ensures) in
-    let l = link (c7 .pattern .ensures) (c4 .pattern3 .ensures) e (c3 .fma-bits .ensures) in
+    let l = link (c7 .pattern .ensures) (c4 .pattern3 .ensures) (c5 .error-bits .ensures) (c3 .fma-bits .ensures) in
     let m = link (c2 .pattern4 .ensures) (c6 .pattern2 .ensures) l (c .before .fma-bits2 .ensures) in
     ap (λ (lo : Float). pair (mul binary64 (s .args .a .hi) (s .args .b .hi)) lo) (c .from-bits .ensures ∙ m)
 

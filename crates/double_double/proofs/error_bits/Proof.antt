@@ -1,10 +1,38 @@
--- `double_double::error_bits` meets its contract. Assumes nothing.
+-- `double_double::error_bits` meets its contract: where neither factor is a NaN, and both are far from the ends of the range, `dekker_error` has it. Assumes nothing.
+use mathlib.Core.Path.{refl}
 use borrow.Author.Needs.{needs}
+use Rattle.double_double.proofs.Halves.{factors, back}
 use Rattle.double_double.proofs.error_bits.Statement.{statement}
 use Rattle.double_double.proofs.error_bits.Tie as tie
 
+float-to-bits-x : tie.Need-float-to-bits-x
+float-to-bits-x c = let s = c .before in factors (s .args .a) (s .args .b) (s .args .hi) (s .pre) (c .if1 .taken) .0
+
+float-to-bits-y : tie.Need-float-to-bits-y
+float-to-bits-y c = let s = c .before in factors (s .args .a) (s .args .b) (s .args .hi) (s .pre) (c .if1 .taken) .1
+
+dekker-error-requires : tie.Need-dekker-error-requires
+dekker-error-requires c κs =
+    let c2 = c .before .before in
+    let s = c2 .before .before .before in
+    (back (s .args .a) _ (s .good .0 .1) refl, back (s .args .b) _ (s .good .1 .0 .1) refl, c2 .before .is-middle .ensures (c2 .if2 .taken), c .before .is-middle2 .ensures (c .if3 .taken), s .pre)
+
+float-to-bits-result : tie.Need-float-to-bits-result
+float-to-bits-result c = c .dekker-error .ensures .1
+
 returns : tie.Need-returns
-returns c = cc
+returns c = back (c .dekker-error .result) _ (c .dekker-error .ok) (c .dekker-error .ensures .0)
 
 pub error-bits-spec : {M : Type 1} → statement M
-error-bits-spec = tie.close (tie.spec (λ c κs. search needs) (λ c κs. search needs) returns)
+error-bits-spec =
+    tie.close
+    (tie.spec
+    float-to-bits-x
+    float-to-bits-y
+    (λ c κs. search needs)
+    (λ c κs. search needs)
+    dekker-error-requires
+    float-to-bits-result
+    returns
+    (λ c κs. search needs)
+    (λ c. search needs))

@@ -1,5 +1,5 @@
 -- `double_double::s_mul` meets its contract: a chain of fmas from the error of the product. Assumes nothing.
-use mathlib.Core.Path.{refl, ap, _∙_}
+use mathlib.Core.Path.{ap, _∙_}
 use lib.Ieee.{Float, binary64, mul}
 use borrow.Author.Needs.{needs}
 use Rattle.pair.specs.Pair.{pair}
@@ -11,13 +11,11 @@ use Rattle.double_double.proofs.s_mul.Tie as tie
 returns : tie.Need-returns
 unfolding aMul sMul
 returns c =
-    let c2 = c .before .before in
-    let c3 = c2 .before in
-    let c5 = c3 .before .before in
-    let s = c5 .before .before in
-    let e = link (c5 .pattern .ensures) (c3 .before .pattern2 .ensures) refl (c3 .error-bits .ensures) in
-    let l = link (c5 .pattern .ensures) (c2 .pattern3 .ensures) e (c .before .fma-bits .ensures) in
+    let c3 = c .before .before .before in
+    let c4 = c3 .before in
+    let s = c4 .before .before in
+    let l = link (c3 .pattern .ensures) (c .before .before .pattern2 .ensures) (c4 .error-bits .ensures) (c .before .fma-bits .ensures) in
     ap (λ (lo : Float). pair (mul binary64 (s .args .a) (s .args .b .hi)) lo) (c .from-bits .ensures ∙ l)
 
 pub s-mul-spec : {M : Type 1} → statement M
-s-mul-spec = tie.close (tie.spec (λ c κs. search needs) (λ c κs. search needs) (λ c κs. search needs) (λ c κs. search needs) (λ c κs. search needs) (λ c κs. search needs) returns)
+s-mul-spec = tie.close (tie.spec (λ c κs. search needs) (λ c κs. search needs) (λ c κs. search needs) (λ c κs. search needs) (λ c κs. search needs) returns)
