@@ -1,8 +1,8 @@
--- What hi = x * y leaves of a product, by Dekker: x and y are cut into halves of 26 digits, the four products of halves are exact, and so are their sums with -hi,
--- but for the last one, which rounds the exact remainder. So it is the fused multiply-add. Assumes nothing.
+-- Dekker's product: each factor is split into a high half of 26 digits and a low half. The four products of halves are exact, and so is each step of adding them to -hi,
+-- since what hi = x * y leaves of the product has at most 53 digits. So the sum is the fused multiply-add x * y - hi. Assumes nothing.
 use mathlib.Core.Path.{_≡_, refl, sym, ap, _∙_, subst}
 use Prim.Native.Nat.{ℕ, suc, _+_, _-_, _*_, _/_, _^_, _≤_, _<_, _∣_}
-use native.Mathlib.Nat.{le-trans, le-of-eq, le-of-lt, lt-of-le-of-lt, lt-of-lt-of-le, mul-pos, mul-le-mul, mul-le-mul-left, mul-le-mul-right, le-of-mul-le-mul-right, mul-lt-mul-of-pos-right, mul-dvd-mul, dvd-zero, dvd-add, one-dvd, dvd-mul-left, dvd-mul-right-of-dvd, dvd-mul-left-of-dvd, dvd-of-mul-dvd-mul-right, div-mul-cancel}
+use native.Mathlib.Nat.{le-trans, le-of-eq, le-of-lt, lt-of-le-of-lt, lt-of-lt-of-le, mul-pos, mul-le-mul, mul-le-mul-left, mul-le-mul-right, le-of-mul-le-mul-right, mul-lt-mul-of-pos-right, mul-dvd-mul, dvd-add, one-dvd, dvd-mul-left, dvd-mul-right-of-dvd, dvd-mul-left-of-dvd, dvd-of-mul-dvd-mul-right, div-mul-cancel}
 use native.Mathlib.Omega.{arith}
 use mathlib.Core.Bool.{Bool, true, false}
 use lib.Dec.{T, lit<, lit≤}
@@ -11,15 +11,15 @@ use lib.Ieee.{Float, Format, prec, emax, low, unlike, round, add, sub, mul, neg}
 use lib.Ieee.Exact.{HasValue}
 use lib.Ieee.Scale.{finite, overflow}
 use Rattle.double_double.proofs.Multiples.{distance, distance-dvd, coarser}
-use Rattle.double_double.proofs.Precision.{toDigits, Representable, toDigits-near, toDigits-whole, dropped, dropped-le, dropped-ge}
-use Rattle.double_double.proofs.Signed.{posPart, negPart}
+use Rattle.double_double.proofs.Precision.{toDigits, Representable, toDigits-near, toDigits-whole, dropped, dropped-le, dropped-ge, rep-le}
+use Rattle.double_double.proofs.Signed.{posPart, negPart, dvd-posPart, dvd-negPart, product-is}
 use Rattle.double_double.proofs.Units.{round-toDigits, has-finite}
 use Rattle.double_double.proofs.TwoProduct.{mul-is, fused-is}
 use Rattle.double_double.proofs.Nearest.{fused}
-use Rattle.double_double.proofs.Scaled.{Scaled, Difference, rep-le, of-side, of-difference, not-zero, within, neg-scaled, add-round, add-exact, powers, mul-exact, pos-product, neg-product, sum-round-at, round-same-difference}
+use Rattle.double_double.proofs.Scaled.{Scaled, Difference, of-side, of-difference, not-zero, within, neg-scaled, add-round, add-exact, powers, mul-exact, sum-round-at, round-same-difference}
 
--- ---- a product of 105 or 106 digits, rounded to 53
-record Top (c w : ℕ) : Type 0 where
+-- ---- a product of 105 or 106 digits, rounded to 53: hi
+record High (c w : ℕ) : Type 0 where
   high : ℕ
   same : toDigits 53 (c * 2 ^ w) ≡ high * 2 ^ w
   over : 2 * c ≤ 2 * high + 2 ^ 53
@@ -27,8 +27,8 @@ record Top (c w : ℕ) : Type 0 where
   most : high ≤ 2 ^ 107
   whole : 2 ^ 52 ∣ high
 
-top : (c w : ℕ) → 2 ^ 104 ≤ c → c < 2 ^ 106 → Top c w
-top c w g l =
+high-of : (c w : ℕ) → 2 ^ 104 ≤ c → c < 2 ^ 106 → High c w
+high-of c w g l =
     let u = 2 ^ w in
     let n = c * u in
     let U = pow-pos w in
@@ -85,8 +85,8 @@ module _ (f : Format) (pf : prec f ≡ 53) where
       → Scaled f w (mul f x y) (a * b) (P * Q + N * M) (P * M + N * Q)
   product-at v g {i} {j} w {x} {y} {a} {b} r q room e X Y d l = mul-exact w e X Y (rep53 v g (a * b) r d l) (below w g (a * b) room q l)
 
--- ---- a number and its high half
-pub record Half (f : Format) (i : ℕ) (s : Bool) (x h : Float) (A H : ℕ) : Type 0 where
+-- ---- Veltkamp's splitting: h, which is ±H, is the high half of x, which is ±A, times 2 ^ i
+pub record HighHalf (f : Format) (i : ℕ) (s : Bool) (x h : Float) (A H : ℕ) : Type 0 where
   pub value : HasValue x s (A * 2 ^ i) (2 ^ low f)
   pub high : HasValue h s (H * 2 ^ i) (2 ^ low f)
   pub least : 2 ^ 52 ≤ A
@@ -99,20 +99,12 @@ pub record Half (f : Format) (i : ℕ) (s : Bool) (x h : Float) (A H : ℕ) : Ty
   pub room : Room f i
 
 -- the low half in size
-abbrev rest : Bool → ℕ → ℕ → ℕ
-rest s A H = distance (posPart s A + negPart s H) (negPart s A + posPart s H)
+abbrev lowHalf : Bool → ℕ → ℕ → ℕ
+lowHalf s A H = distance (posPart s A + negPart s H) (negPart s A + posPart s H)
 
-rest-le : (s : Bool) (A H : ℕ) → A ≤ H + 2 ^ 26 → H ≤ A + 2 ^ 26 → rest s A H ≤ 2 ^ 26
-rest-le true A H o u = omega arith
-rest-le false A H o u = omega arith
-
-dvd-pos : (d : ℕ) (s : Bool) (n : ℕ) → d ∣ n → d ∣ posPart s n
-dvd-pos d true n h = dvd-zero d
-dvd-pos d false n h = h
-
-dvd-neg : (d : ℕ) (s : Bool) (n : ℕ) → d ∣ n → d ∣ negPart s n
-dvd-neg d true n h = h
-dvd-neg d false n h = dvd-zero d
+lowHalf-le : (s : Bool) (A H : ℕ) → A ≤ H + 2 ^ 26 → H ≤ A + 2 ^ 26 → lowHalf s A H ≤ 2 ^ 26
+lowHalf-le true A H o u = omega arith
+lowHalf-le false A H o u = omega arith
 
 -- (h + l) * (k + m) is a * b, where l is a - h and m is b - k, each a difference of two numbers
 expand : (a a' h h' b b' k k' : ℕ) {ab ab' : ℕ} → ab ≡ a * b + a' * b' → ab' ≡ a * b' + a' * b
@@ -157,20 +149,20 @@ abbrev pub IsFused : Format → Float → Float → Float → Float → Type 0
 IsFused f x y h k = (remainderOf f x y h k (mul f x y) ≡ fused f x y (neg (mul f x y))) × T (finite (remainderOf f x y h k (mul f x y)))
 
 module _ (f : Format) (pf : prec f ≡ 53) where
-  low-half : {i : ℕ} {s : Bool} {x h : Float} {A H : ℕ} → Half f i s x h A H → Scaled f i (sub f x h) (rest s A H) (posPart s A + negPart s H) (negPart s A + posPart s H)
+  low-half-is : {i : ℕ} {s : Bool} {x h : Float} {A H : ℕ} → HighHalf f i s x h A H → Scaled f i (sub f x h) (lowHalf s A H) (posPart s A + negPart s H) (negPart s A + posPart s H)
   unfolding sub
-  low-half {i} {s} {x} {h} {A} {H} X =
+  low-half-is {i} {s} {x} {h} {A} {H} X =
       of-difference
       (sum-at f pf 0 26 (lit≤ tt) (lit≤ tt) (X .room) (not-zero (of-side f i x s A (X .value)) (lt-of-lt-of-le (lit< tt) (X .least))) (neg-scaled (of-side f i h s H (X .high)))
-      (one-dvd (posPart s A + negPart s H)) (one-dvd (negPart s A + posPart s H)) (rest-le s A H (X .over) (X .under)))
+      (one-dvd (posPart s A + negPart s H)) (one-dvd (negPart s A + posPart s H)) (lowHalf-le s A H (X .over) (X .under)))
 
-  module _ {i j : ℕ} (w : ℕ) (e : i + j ≡ w + low f) (room : Room f w) {s t : Bool} {x h y k : Float} {A H B K : ℕ} (X : Half f i s x h A H) (Y : Half f j t y k B K) where
+  module _ {i j : ℕ} (w : ℕ) (e : i + j ≡ w + low f) (room : Room f w) {s t : Bool} {x h y k : Float} {A H B K : ℕ} (X : HighHalf f i s x h A H) (Y : HighHalf f j t y k B K) where
     abbrev u : Bool
     u = unlike s t
 
     -- hi
-    O : Top (A * B) w
-    O = top (A * B) w (mul-le-mul (X .least) (Y .least)) (lt-of-le-of-lt (mul-le-mul-left A (le-of-lt (Y .small))) (mul-lt-mul-of-pos-right (X .small) (lit< tt)))
+    O : High (A * B) w
+    O = high-of (A * B) w (mul-le-mul (X .least) (Y .least)) (lt-of-le-of-lt (mul-le-mul-left A (le-of-lt (Y .small))) (mul-lt-mul-of-pos-right (X .small) (lit< tt)))
 
     abbrev c : ℕ
     c = O .high
@@ -198,8 +190,8 @@ module _ (f : Format) (pf : prec f ≡ 53) where
         let N = negPart u (A * B) in
         let HI = neg-scaled (of-side f w (mul f x y) u c hi-has) in
         let W = bounds hh hh' hl hl' lh lh' ll ll' P N p n I (wide HL b-le) (wide LH d-le) (wide LL g-le) (rounding u (A * B) c (O .over) (O .under)) in
-        let D1 = dvd-add (2 ^ 52) (D .0) (dvd-neg (2 ^ 52) u c (O .whole)) in
-        let D2 = dvd-add (2 ^ 52) (D .1) (dvd-pos (2 ^ 52) u c (O .whole)) in
+        let D1 = dvd-add (2 ^ 52) (D .0) (dvd-negPart (2 ^ 52) u c (O .whole)) in
+        let D2 = dvd-add (2 ^ 52) (D .1) (dvd-posPart (2 ^ 52) u c (O .whole)) in
         let T1 = sum-at f pf 52 81 (lit≤ tt) (lit≤ tt) room (not-zero HH some) HI D1 D2 (W .one) in
         let T2 = sum-at f pf 27 80 (lit≤ tt) (lit≤ tt) room T1 HL (dvd-add (2 ^ 27) (coarser 27 52 _ (lit≤ tt) D1) (E .0)) (dvd-add (2 ^ 27) (coarser 27 52 _ (lit≤ tt) D2) (E .1)) (W .two) in
         let T3 = sum-at f pf 0 53 (lit≤ tt) (lit≤ tt) room T2 LH (one-dvd (hh + n + hl + lh)) (one-dvd (hh' + p + hl' + lh')) (W .three) in
@@ -219,23 +211,23 @@ module _ (f : Format) (pf : prec f ≡ 53) where
 
     pub dekker : IsFused f x y h k
     dekker =
-        let p = dvd-pos (2 ^ 27) s H (X .whole) in
-        let n = dvd-neg (2 ^ 27) s H (X .whole) in
-        let q = dvd-pos (2 ^ 27) t K (Y .whole) in
-        let o = dvd-neg (2 ^ 27) t K (Y .whole) in
+        let p = dvd-posPart (2 ^ 27) s H (X .whole) in
+        let n = dvd-negPart (2 ^ 27) s H (X .whole) in
+        let q = dvd-posPart (2 ^ 27) t K (Y .whole) in
+        let o = dvd-negPart (2 ^ 27) t K (Y .whole) in
         let HX = of-side f i h s H (X .high) in
         let HY = of-side f j k t K (Y .high) in
-        let l-le = rest-le s A H (X .over) (X .under) in
-        let m-le = rest-le t B K (Y .over) (Y .under) in
-        let hm-le : H * rest t B K ≤ 2 ^ 79 = mul-le-mul (X .most) m-le in
-        let lk-le : rest s A H * K ≤ 2 ^ 79 = mul-le-mul l-le (Y .most) in
-        let lm-le : rest s A H * rest t B K ≤ 2 ^ 52 = mul-le-mul l-le m-le in
+        let l-le = lowHalf-le s A H (X .over) (X .under) in
+        let m-le = lowHalf-le t B K (Y .over) (Y .under) in
+        let hm-le : H * lowHalf t B K ≤ 2 ^ 79 = mul-le-mul (X .most) m-le in
+        let lk-le : lowHalf s A H * K ≤ 2 ^ 79 = mul-le-mul l-le (Y .most) in
+        let lm-le : lowHalf s A H * lowHalf t B K ≤ 2 ^ 52 = mul-le-mul l-le m-le in
         sums (product-at f pf 54 106 w (lit≤ tt) (lit≤ tt) room e HX HY (mul-dvd-mul (2 ^ 27) (2 ^ 27) (X .whole) (Y .whole)) (mul-le-mul (X .most) (Y .most)))
-        (product-at f pf 27 79 w (lit≤ tt) (lit≤ tt) room e HX (low-half Y) (dvd-mul-right-of-dvd (2 ^ 27) (X .whole) (rest t B K)) hm-le)
-        (product-at f pf 27 79 w (lit≤ tt) (lit≤ tt) room e (low-half X) HY (dvd-mul-left-of-dvd (2 ^ 27) (Y .whole) (rest s A H)) lk-le)
-        (product-at f pf 0 52 w (lit≤ tt) (lit≤ tt) room e (low-half X) (low-half Y) (one-dvd (rest s A H * rest t B K)) lm-le)
+        (product-at f pf 27 79 w (lit≤ tt) (lit≤ tt) room e HX (low-half-is Y) (dvd-mul-right-of-dvd (2 ^ 27) (X .whole) (lowHalf t B K)) hm-le)
+        (product-at f pf 27 79 w (lit≤ tt) (lit≤ tt) room e (low-half-is X) HY (dvd-mul-left-of-dvd (2 ^ 27) (Y .whole) (lowHalf s A H)) lk-le)
+        (product-at f pf 0 52 w (lit≤ tt) (lit≤ tt) room e (low-half-is X) (low-half-is Y) (one-dvd (lowHalf s A H * lowHalf t B K)) lm-le)
         (mul-pos (X .some) (Y .some)) hm-le lk-le lm-le
-        (expand (posPart s A) (negPart s A) (posPart s H) (negPart s H) (posPart t B) (negPart t B) (posPart t K) (negPart t K) (pos-product s A t B) (neg-product s A t B)) (
+        (expand (posPart s A) (negPart s A) (posPart s H) (negPart s H) (posPart t B) (negPart t B) (posPart t K) (negPart t K) (product-is s A t B .0) (product-is s A t B .1)) (
           coarser 52 54 _ (lit≤ tt) (dvd-add (2 ^ 54) (mul-dvd-mul (2 ^ 27) (2 ^ 27) p q) (mul-dvd-mul (2 ^ 27) (2 ^ 27) n o)),
           coarser 52 54 _ (lit≤ tt) (dvd-add (2 ^ 54) (mul-dvd-mul (2 ^ 27) (2 ^ 27) p o) (mul-dvd-mul (2 ^ 27) (2 ^ 27) n q)),
         )

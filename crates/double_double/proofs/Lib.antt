@@ -9,5 +9,5 @@ pub mod Nearest
 pub mod TwoProduct
 pub mod Scaled
 pub mod Dekker
-pub mod Halves
+pub mod Split
 pub mod Chains

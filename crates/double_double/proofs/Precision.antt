@@ -3,9 +3,9 @@
 use mathlib.Core.Path.{_≡_, sym, ap, _∙_, subst}
 use mathlib.Core.Logic.{inl, inr}
 use Prim.Native.Nat.{ℕ, suc, _+_, _-_, _*_, _^_, _≤_, _<_, _∣_}
-use native.Mathlib.Nat.{le-refl, lt-of-lt-of-le, lt-of-le-of-lt, dvd-zero, one-dvd, two-pow-succ, not-le-of-lt, lt-of-not-le, mul-dvd-mul-left, pow-succ'}
+use native.Mathlib.Nat.{le-refl, lt-of-lt-of-le, lt-of-le-of-lt, dvd-refl, dvd-zero, one-dvd, not-le-of-lt, lt-of-not-le, mul-dvd-mul-right, eq-or-lt-of-le}
 use native.Mathlib.Omega.{arith}
-use lib.Pow.{pow-pos, pow-mono}
+use lib.Pow.{pow-add, pow-pos, pow-mono, pow-lt, shl-lt}
 use lib.Ieee.{size}
 use lib.Ieee.Digits.{size-lt, size-le, size-reaches}
 use lib.Ieee.Nearest.{closest}
@@ -109,18 +109,25 @@ rep-zero p = record { unit = 0; whole = dvd-zero (2 ^ 0); small = pow-pos (p + 0
 pub rep-few : (p n : ℕ) → n < 2 ^ p → Representable p n
 rep-few p n h = record { unit = 0; whole = one-dvd n; small = lt-of-lt-of-le h (pow-mono (omega arith)) }
 
-pub rep-twice : (p n : ℕ) → Representable p n → Representable p (2 * n)
-rep-twice p n r = record {
-  unit = suc (r .unit);
-  whole = subst (λ (x : ℕ). x ∣ 2 * n) (sym (pow-succ' 2 (r .unit))) (mul-dvd-mul-left (2 ^ r .unit) 2 (r .whole));
-  small = subst (λ (x : ℕ). 2 * n < x) (sym (ap (λ (x : ℕ). 2 ^ x) (shift p (r .unit)) ∙ two-pow-succ (p + r .unit))) (double n (2 ^ (p + r .unit)) (r .small));
-}
-  where
-    shift : (p j : ℕ) → p + suc j ≡ suc (p + j)
-    shift p j = omega arith
-
-    double : (a b : ℕ) → a < b → 2 * a < b + b
-    double a b h = omega arith
+pub rep-le : (p j n : ℕ) → 0 < p → 2 ^ j ∣ n → n ≤ 2 ^ (p + j) → Representable p n
+rep-le p j n P d h =
+    elim (eq-or-lt-of-le h) [
+      | inl e ↦ record { unit = p + j; whole = subst (λ (x : ℕ). 2 ^ (p + j) ∣ x) (sym e) (dvd-refl (2 ^ (p + j))); small = lt-of-le-of-lt h (pow-lt (omega arith)) }
+      | inr l ↦ record { unit = j; whole = d; small = l }
+    ]
 
 pub rep-as : (p m n : ℕ) → m ≡ n → Representable p n → Representable p m
 rep-as p m n e r = subst (λ (x : ℕ). Representable p x) (sym e) r
+
+pub rep-times : (p n k : ℕ) → Representable p n → Representable p (n * 2 ^ k)
+rep-times p n k r = record {
+  unit = r .unit + k;
+  whole = subst (λ (x : ℕ). x ∣ n * 2 ^ k) (sym (pow-add 2 (r .unit) k)) (mul-dvd-mul-right (2 ^ r .unit) (r .whole) (2 ^ k));
+  small = subst (λ (x : ℕ). n * 2 ^ k < 2 ^ x) (join p (r .unit) k) (shl-lt (p + r .unit) k (r .small));
+}
+  where
+    join : (p j k : ℕ) → p + j + k ≡ p + (j + k)
+    join p j k = omega arith
+
+pub rep-twice : (p n : ℕ) → Representable p n → Representable p (2 * n)
+rep-twice p n r = rep-as p (2 * n) (n * 2 ^ 1) (omega arith) (rep-times p n 1 r)

@@ -1,100 +1,30 @@
--- Floats that are P - N times 2 ^ w units. A sum or a product of two such is exact where p digits write it, and a sum is known by its P - N alone, unless its first part is -0.
--- Assumes nothing.
-use mathlib.Core.Path.{_≡_, refl, sym, ap, ap₂, _∙_, subst}
-use mathlib.Core.Logic.{inl, inr}
-use Prim.Native.Nat.{ℕ, zero, suc, _+_, _-_, _*_, _^_, _≤_, _<_, _∣_}
-use native.Mathlib.Nat.{dvd-refl, zero-add, add-zero, mul-one, lt-of-le-of-lt, mul-assoc, mul-comm, mul-mul-mul-comm, mul-le-mul-right, mul-lt-mul-of-pos-right, mul-dvd-mul-right, mul-sub, zero-mul, eq-or-lt-of-le}
+-- Floats that are P - N times 2 ^ w units. A sum or a product of two such is exact where p digits write it, and a sum is known by its P - N alone, unless its first
+-- part is -0. Assumes nothing.
+use mathlib.Core.Path.{_≡_, refl, sym, ap, _∙_, subst}
+use Prim.Native.Nat.{ℕ, zero, suc, _+_, _*_, _^_, _≤_, _<_}
+use native.Mathlib.Nat.{mul-one, mul-assoc, mul-mul-mul-comm, zero-mul}
 use native.Mathlib.Omega.{arith}
-use mathlib.Core.Bool.{Bool, true, false, not, true≢false}
-use lib.Dec.{T, lit<, ltb, ltb→lt, nltb→le}
-use lib.Pow.{pow-add, pow-pos, pow-lt, shl-lt}
-use borrow.Author.Tests.{lt-ltb, le-ltb}
+use mathlib.Core.Bool.{Bool, true, false, not}
+use lib.Dec.{lit<, ltb}
+use lib.Pow.{pow-add, pow-pos}
+use borrow.Author.Tests.{le-ltb}
 use lib.Ieee.{Float, Format, prec, low, unlike, round, sum, add, mul, neg}
 use lib.Ieee.Exact.{HasValue}
 use lib.Ieee.Scale.{overflow}
-use Rattle.double_double.proofs.Multiples.{distance, either-order}
-use Rattle.double_double.proofs.Precision.{Representable}
-use Rattle.double_double.proofs.Signed.{posPart, negPart, IsDifference}
-use Rattle.double_double.proofs.Units.{add-is, neg-is, round-keeps}
+use Rattle.double_double.proofs.Multiples.{distance}
+use Rattle.double_double.proofs.Precision.{Representable, rep-times}
+use Rattle.double_double.proofs.Signed.{posPart, negPart, IsDifference, NotMinusZero, size-is, sign-is, is-difference, same-difference, product-is}
+use Rattle.double_double.proofs.Units.{sum-is, add-is, neg-is, round-keeps}
 use Rattle.double_double.proofs.TwoProduct.{mul-is}
 
--- ---- what p digits write
-pub rep-le : (p v n : ℕ) → 0 < p → 2 ^ v ∣ n → n ≤ 2 ^ (p + v) → Representable p n
-rep-le p v n P d h =
-    elim (eq-or-lt-of-le h) [
-      | inl e ↦ record { unit = p + v; whole = subst (λ (x : ℕ). 2 ^ (p + v) ∣ x) (sym e) (dvd-refl (2 ^ (p + v))); small = lt-of-le-of-lt h (pow-lt (omega arith)) }
-      | inr l ↦ record { unit = v; whole = d; small = l }
-    ]
-
-rep-times : (p n w : ℕ) → Representable p n → Representable p (n * 2 ^ w)
-rep-times p n w r = record {
-  unit = r .unit + w;
-  whole = subst (λ (x : ℕ). x ∣ n * 2 ^ w) (sym (pow-add 2 (r .unit) w)) (mul-dvd-mul-right (2 ^ r .unit) (r .whole) (2 ^ w));
-  small = subst (λ (x : ℕ). n * 2 ^ w < 2 ^ x) (join p (r .unit) w) (shl-lt (p + r .unit) w (r .small));
-}
-  where
-    join : (p u w : ℕ) → p + u + w ≡ p + (u + w)
-    join p u w = omega arith
-
--- ---- differences
-is-difference : (P N : ℕ) → IsDifference (ltb P N) (distance P N) P N
-is-difference P N = go (ltb P N) (ltb→lt P N) (nltb→le P N)
-  where
-    go : (q : Bool) → (T q → P < N) → (T (not q) → N ≤ P) → IsDifference q (distance P N) P N
-    go true h k = let l = h tt in omega arith
-    go false h k = let l = k tt in omega arith
-
--- ±n, if it is not zero, has one sign and one size
-one-difference : (s : Bool) (n P N : ℕ) → 0 < n → IsDifference s n P N → (s ≡ ltb P N) × (n ≡ distance P N)
-one-difference true n P N h i = (sym (lt-ltb P N (omega arith)), omega arith)
-one-difference false n P N h i = (sym (le-ltb P N (omega arith)), omega arith)
-
--- P - N is P' - N' times u
-same-difference : (P N P' N' u : ℕ) → 0 < u → P + N' * u ≡ P' * u + N → (ltb P N ≡ ltb P' N') × (distance P N ≡ distance P' N' * u)
-same-difference P N P' N' u U e =
-    elim (either-order N' P') [
-      | inl h ↦ let l = mul-le-mul-right u h in (le-ltb P N (omega arith) ∙ sym (le-ltb P' N' h), sym (go P' N' (omega arith)))
-      | inr h ↦ let l = mul-lt-mul-of-pos-right h U in (lt-ltb P N (omega arith) ∙ sym (lt-ltb P' N' h), sym (go P' N' (omega arith)))
-    ]
-  where
-    sub-mul : (a b : ℕ) → (a - b) * u ≡ a * u - b * u
-    sub-mul a b = mul-comm (a - b) u ∙ mul-sub u a b ∙ ap₂ _-_ (mul-comm u a) (mul-comm u b)
-
-    go : (a b : ℕ) → {d : ℕ} → a * u - b * u + (b * u - a * u) ≡ d → distance a b * u ≡ d
-    go a b {d} h = let p = sub-mul a b in let q = sub-mul b a in omega arith
-
 -- ---- sums of fractions
--- ±n is not -0
-abbrev Clean : Bool → ℕ → Type 0
-Clean s n = n ≡ 0 → s ≡ false
-
-rounded : (f : Format) (c : ℕ) {q q' : Bool} {n n' : ℕ} → q ≡ q' → n ≡ n' → round f q n c ≡ round f q' n' c
-rounded f c e g = λ i. round f (e i) (g i) c
-
-sum-is : (f : Format) (s : Bool) (a : ℕ) (t : Bool) (b c : ℕ) → Clean s a
-    → sum f s a t b c ≡ round f (ltb (posPart s a + posPart t b) (negPart s a + negPart t b)) (distance (posPart s a + posPart t b) (negPart s a + negPart t b)) c
-unfolding sum
-sum-is f false a false b c C = rounded f c (sym (le-ltb (a + b) (0 + 0) (omega arith))) (omega arith)
-sum-is f true zero true b c C = absurd (true≢false (C refl))
-sum-is f true (suc a) true b c C = rounded f c (sym (lt-ltb (0 + 0) (suc a + b) (omega arith))) (omega arith)
-sum-is f false a true b c C =
-    elim (either-order b a) [
-      | inl h ↦ rw (le-ltb a b h) (rounded f c (sym (le-ltb (a + 0) (0 + b) (omega arith))) (omega arith))
-      | inr h ↦ rw (lt-ltb a b h) (rounded f c (sym (lt-ltb (a + 0) (0 + b) (omega arith))) (omega arith))
-    ]
-sum-is f true a false b c C =
-    elim (either-order b a) [
-      | inl h ↦ rw (le-ltb a b h) (rounded f c (ap₂ ltb (sym (zero-add b)) (sym (add-zero a))) (omega arith))
-      | inr h ↦ rw (lt-ltb a b h) (rounded f c (sym (le-ltb (0 + b) (a + 0) (omega arith))) (omega arith))
-    ]
-
--- the same of ±a, which is P - N, and ±b, which is Q - M, times u
-pub sum-round-at : (f : Format) (s : Bool) (a : ℕ) (t : Bool) (b c P N Q M u : ℕ) → 0 < u → Clean s a → IsDifference s a P N → IsDifference t b Q M
+-- the sum of ±a, which is P - N, and ±b, which is Q - M, times u
+pub sum-round-at : (f : Format) (s : Bool) (a : ℕ) (t : Bool) (b c P N Q M u : ℕ) → 0 < u → NotMinusZero s a → IsDifference s a P N → IsDifference t b Q M
     → sum f s (a * u) t (b * u) c ≡ round f (ltb (P + Q) (N + M)) (distance (P + Q) (N + M) * u) c
-sum-round-at f s a t b c P N Q M u U C i j =
+sum-round-at f s a t b c P N Q M u U z i j =
     let e = same-difference (posPart s (a * u) + posPart t (b * u)) (negPart s (a * u) + negPart t (b * u)) (P + Q) (N + M) u U
     (lines (posPart s (a * u)) (negPart s (a * u)) (posPart t (b * u)) (negPart t (b * u)) (posPart s a) (negPart s a) (posPart t b) (negPart t b) (ap (λ (x : ℕ). x * u) i) (ap (λ (x : ℕ). x * u) j) (pos-mul s a) (neg-mul s a) (pos-mul t b) (neg-mul t b)) in
-    sum-is f s (a * u) t (b * u) c (clean a C) ∙ rounded f c (e .0) (e .1)
+    sum-is f s (a * u) t (b * u) c (not-minus a z) ∙ (λ i. round f (e .0 i) (e .1 i) c)
   where
     pos-mul : (s : Bool) (n : ℕ) → posPart s (n * u) ≡ posPart s n * u
     pos-mul true n = sym (zero-mul u)
@@ -104,9 +34,9 @@ sum-round-at f s a t b c P N Q M u U C i j =
     neg-mul true n = refl
     neg-mul false n = sym (zero-mul u)
 
-    clean : (n : ℕ) → Clean s n → Clean s (n * u)
-    clean zero k z = k refl
-    clean (suc n) k z = absurd (omega arith)
+    not-minus : (n : ℕ) → NotMinusZero s n → NotMinusZero s (n * u)
+    not-minus zero k e = k refl
+    not-minus (suc n) k e = absurd (omega arith)
 
     lines : (A A' B B' a a' b b' : ℕ) → (a + N) * u ≡ (P + a') * u → (b + M) * u ≡ (Q + b') * u → A ≡ a * u → A' ≡ a' * u → B ≡ b * u → B' ≡ b' * u → A + B + (N + M) * u ≡ (P + Q) * u + (A' + B')
     lines A A' B B' a a' b b' h k p q r s = omega arith
@@ -115,7 +45,7 @@ sum-round-at f s a t b c P N Q M u U C i j =
 pub round-same-difference : (f : Format) (P N P' N' u c : ℕ) → P + N' ≡ P' + N → round f (ltb P N) (distance P N * u) c ≡ round f (ltb P' N') (distance P' N' * u) c
 round-same-difference f P N P' N' u c h =
     let e = same-difference P N P' N' 1 (lit< tt) (omega arith) in
-    rounded f c (e .0) (ap (λ (n : ℕ). n * u) (e .1 ∙ mul-one (distance P' N')))
+    λ i. round f (e .0 i) ((e .1 ∙ mul-one (distance P' N')) i * u) c
 
 -- ---- floats
 -- x is ±n, which is P - N, times 2 ^ w units
@@ -136,7 +66,10 @@ of-difference {f} {w} {x} {P} {N} X = record { side = ltb P N; val = X .val; is 
 
 module _ {f : Format} {w : ℕ} {x : Float} {n P N : ℕ} (X : Scaled f w x n P N) where
   pub not-zero : 0 < n → Difference f w x P N
-  not-zero h = let e = one-difference (X .side) n P N h (X .is) in record { val = subst (λ (s : Bool). HasValue x s (distance P N * 2 ^ w) (2 ^ low f)) (e .0) (subst (λ (k : ℕ). HasValue x (X .side) (k * 2 ^ w) (2 ^ low f)) (e .1) (X .val)) }
+  not-zero h = record {
+    val = subst (λ (s : Bool). HasValue x s (distance P N * 2 ^ w) (2 ^ low f)) (sign-is (X .side) n P N (λ z. absurd (omega arith)) (X .is))
+        (subst (λ (k : ℕ). HasValue x (X .side) (k * 2 ^ w) (2 ^ low f)) (size-is (X .side) n P N (X .is)) (X .val));
+  }
 
   pub within : (P ≤ N + n) × (N ≤ P + n)
   within = go (X .side) (X .is)
@@ -168,19 +101,6 @@ module _ {f : Format} {w : ℕ} {x y : Float} {b P N Q M : ℕ} (X : Difference 
 pub powers : (a i b j w l : ℕ) → i + j ≡ w + l → a * 2 ^ i * (b * 2 ^ j) ≡ a * b * 2 ^ w * 2 ^ l
 powers a i b j w l e = mul-mul-mul-comm a (2 ^ i) b (2 ^ j) ∙ ap (λ (z : ℕ). a * b * z) (sym (pow-add 2 i j) ∙ ap (λ (z : ℕ). 2 ^ z) e ∙ pow-add 2 w l) ∙ sym (mul-assoc (a * b) (2 ^ w) (2 ^ l))
 
--- a product by positive and negative parts
-pub pos-product : (s : Bool) (m : ℕ) (t : Bool) (n : ℕ) → posPart (unlike s t) (m * n) ≡ posPart s m * posPart t n + negPart s m * negPart t n
-pos-product true m true n = omega arith
-pos-product true m false n = omega arith
-pos-product false m true n = omega arith
-pos-product false m false n = omega arith
-
-pub neg-product : (s : Bool) (m : ℕ) (t : Bool) (n : ℕ) → negPart (unlike s t) (m * n) ≡ posPart s m * negPart t n + negPart s m * posPart t n
-neg-product true m true n = omega arith
-neg-product true m false n = omega arith
-neg-product false m true n = omega arith
-neg-product false m false n = omega arith
-
 pub mul-exact : {f : Format} {i j : ℕ} (w : ℕ) {x y : Float} {a b P N Q M : ℕ} → i + j ≡ w + low f → Scaled f i x a P N → Scaled f j y b Q M → Representable (prec f) (a * b) → a * b * 2 ^ w < overflow f
     → Scaled f w (mul f x y) (a * b) (P * Q + N * M) (P * M + N * Q)
 mul-exact {f} {i} {j} w {x} {y} {a} {b} {P} {N} {Q} {M} e X Y r l =
@@ -190,7 +110,7 @@ mul-exact {f} {i} {j} w {x} {y} {a} {b} {P} {N} {Q} {M} e X Y r l =
       side = unlike s t;
       val = subst (λ (z : Float). HasValue z (unlike s t) (a * b * 2 ^ w) (2 ^ low f)) (sym (mul-is f x y s (a * 2 ^ i) t (b * 2 ^ j) (a * b * 2 ^ w) (X .val) (Y .val) (powers a i b j w (low f) e)))
           (round-keeps f (unlike s t) (a * b * 2 ^ w) (rep-times (prec f) (a * b) w r) l);
-      is = lines (posPart s a) (negPart s a) (posPart t b) (negPart t b) (ap (λ (z : ℕ). z * Q) (X .is)) (ap (λ (z : ℕ). z * M) (X .is)) (ap (λ (z : ℕ). posPart s a * z) (Y .is)) (ap (λ (z : ℕ). negPart s a * z) (Y .is)) (pos-product s a t b) (neg-product s a t b);
+      is = lines (posPart s a) (negPart s a) (posPart t b) (negPart t b) (ap (λ (z : ℕ). z * Q) (X .is)) (ap (λ (z : ℕ). z * M) (X .is)) (ap (λ (z : ℕ). posPart s a * z) (Y .is)) (ap (λ (z : ℕ). negPart s a * z) (Y .is)) (product-is s a t b .0) (product-is s a t b .1);
     }
   where
     lines : (a a' b b' : ℕ) {A B : ℕ} → (a + N) * Q ≡ (P + a') * Q → (a + N) * M ≡ (P + a') * M → a * (b + M) ≡ a * (Q + b') → a' * (b + M) ≡ a' * (Q + b') → A ≡ a * b + a' * b' → B ≡ a * b' + a' * b

@@ -1,14 +1,17 @@
 -- Numbers with a sign: ±n as the difference of two natural numbers, so that equations with signs are linear over ℕ, and the same in ℤ. Assumes nothing.
 use mathlib.Core.Path.{_≡_, refl, sym, ap, _∙_}
-use Prim.Native.Nat.{ℕ, zero, suc, _+_, _-_, _*_, _≤_, _<_}
-use native.Mathlib.Nat.{mul-zero, zero-mul}
+use mathlib.Core.Logic.{inl, inr}
+use Prim.Native.Nat.{ℕ, zero, suc, _+_, _-_, _*_, _≤_, _<_, _∣_}
+use native.Mathlib.Nat.{mul-zero, zero-mul, mul-le-mul-right, mul-lt-mul-of-pos-right, dvd-zero}
 use native.Mathlib.Omega.{arith}
-use mathlib.Core.Bool.{Bool, true, false, not, cond}
+use mathlib.Core.Bool.{Bool, true, false, not, cond, true≢false}
 use lib.IntN.{ℤ, pos, negsuc, negℤ, subℕ, _+ℤ_, _*ℤ_, +ℤ-assoc, +ℤ-comm, +ℤ-idl, +ℤ-idr, negℤ-+ℤ}
 use lib.Dec.{T, ltb, ltb→lt, nltb→le}
+use borrow.Author.Tests.{lt-ltb, le-ltb}
 use lib.Ieee.{unlike}
+use Rattle.wide.proofs.Nat.{sub-mul}
 use Rattle.double_double.specs.Exactness.{signed}
-use Rattle.double_double.proofs.Multiples.{distance}
+use Rattle.double_double.proofs.Multiples.{distance, either-order}
 
 -- ---- the positive and the negative part of a number with a sign
 abbrev pub posPart : Bool → ℕ → ℕ
@@ -47,6 +50,49 @@ pub balance : (u q : Bool) (c h n : ℕ) → IsDifference q n (posPart u c + pos
     → posPart u h + posPart q n + negPart u c ≡ posPart u c + (negPart u h + negPart q n)
 balance false q c h n i = let j : posPart q n + (0 + h) ≡ c + 0 + negPart q n = i in omega arith
 balance true q c h n i = let j : posPart q n + (c + 0) ≡ 0 + h + negPart q n = i in omega arith
+
+pub dvd-posPart : (d : ℕ) (s : Bool) (n : ℕ) → d ∣ n → d ∣ posPart s n
+dvd-posPart d true n h = dvd-zero d
+dvd-posPart d false n h = h
+
+pub dvd-negPart : (d : ℕ) (s : Bool) (n : ℕ) → d ∣ n → d ∣ negPart s n
+dvd-negPart d true n h = h
+dvd-negPart d false n h = dvd-zero d
+
+-- a product by positive and negative parts
+pub product-is : (s : Bool) (m : ℕ) (t : Bool) (n : ℕ)
+    → (posPart (unlike s t) (m * n) ≡ posPart s m * posPart t n + negPart s m * negPart t n) × (negPart (unlike s t) (m * n) ≡ posPart s m * negPart t n + negPart s m * posPart t n)
+product-is true m true n = (omega arith, omega arith)
+product-is true m false n = (omega arith, omega arith)
+product-is false m true n = (omega arith, omega arith)
+product-is false m false n = (omega arith, omega arith)
+
+-- ---- a difference has one size and, if it is not -0, one sign
+abbrev pub NotMinusZero : Bool → ℕ → Type 0
+NotMinusZero s n = n ≡ 0 → s ≡ false
+
+pub is-difference : (P N : ℕ) → IsDifference (ltb P N) (distance P N) P N
+is-difference P N = go (ltb P N) (ltb→lt P N) (nltb→le P N)
+  where
+    go : (q : Bool) → (T q → P < N) → (T (not q) → N ≤ P) → IsDifference q (distance P N) P N
+    go true h k = let l = h tt in omega arith
+    go false h k = let l = k tt in omega arith
+
+pub sign-is : (s : Bool) (n P N : ℕ) → NotMinusZero s n → IsDifference s n P N → s ≡ ltb P N
+sign-is true zero P N z i = absurd (true≢false (z refl))
+sign-is true (suc n) P N z i = sym (lt-ltb P N (omega arith))
+sign-is false n P N z i = sym (le-ltb P N (omega arith))
+
+-- P - N is P' - N' times u
+pub same-difference : (P N P' N' u : ℕ) → 0 < u → P + N' * u ≡ P' * u + N → (ltb P N ≡ ltb P' N') × (distance P N ≡ distance P' N' * u)
+same-difference P N P' N' u U e =
+    elim (either-order N' P') [
+      | inl h ↦ let l = mul-le-mul-right u h in (le-ltb P N (omega arith) ∙ sym (le-ltb P' N' h), sym (times (omega arith)))
+      | inr h ↦ let l = mul-lt-mul-of-pos-right h U in (lt-ltb P N (omega arith) ∙ sym (lt-ltb P' N' h), sym (times (omega arith)))
+    ]
+  where
+    times : {d : ℕ} → P' * u - N' * u + (N' * u - P' * u) ≡ d → distance P' N' * u ≡ d
+    times {d} h = let p = sub-mul P' N' u in let q = sub-mul N' P' u in omega arith
 
 -- ---- ℤ by positive and negative parts
 pub sub-is : (a b : ℕ) → subℕ a b ≡ pos a +ℤ negℤ (pos b)

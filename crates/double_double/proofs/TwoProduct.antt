@@ -178,7 +178,7 @@ module _ (f : Format) (x y : Float) (fx : T (fits f x)) (fy : T (fits f y)) (nx 
       with-product G (round-under f (unlike (sign x) (sign y)) (G .count) (subst (λ (z : Float). T (finite z)) e (h .1)))
 
 -- ---- of binary64, with the fused multiply-add of ieee754
-neg-finite : (x : Float) → T (finite x) → T (finite (neg x))
+pub neg-finite : (x : Float) → T (finite x) → T (finite (neg x))
 unfolding neg
 neg-finite (fin s m e) t = t
 

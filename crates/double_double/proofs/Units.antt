@@ -2,7 +2,7 @@
 -- A sum of two such values is `round` at a whole number; where p digits write that number nothing is lost, and else the result is `toDigits` of it. Assumes nothing.
 use mathlib.Core.Path.{_≡_, refl, sym, ap, _∙_, subst}
 use Prim.Native.Nat.{ℕ, zero, suc, _+_, _-_, _*_, _%_, _^_, _≤_, _<_, _∣_}
-use native.Mathlib.Nat.{le-of-eq, lt-of-lt-of-le, lt-of-le-of-lt, mul-assoc, mul-comm, mul-right-comm, mul-one, mul-pos, mul-sub, add-mul, mul-div-cancel, mul-lt-mul-of-pos-right, lt-of-mul-lt-mul-right, dvd-mul-left, div-eq-of-eq-mul-left, sub-add-cancel, not-le-of-lt, lt-of-not-le, zero-mul, le-of-suc-le-suc}
+use native.Mathlib.Nat.{le-of-eq, lt-of-lt-of-le, lt-of-le-of-lt, mul-assoc, mul-comm, mul-right-comm, mul-one, mul-pos, add-mul, mul-div-cancel, mul-lt-mul-of-pos-right, lt-of-mul-lt-mul-right, dvd-mul-left, div-eq-of-eq-mul-left, sub-add-cancel, not-le-of-lt, lt-of-not-le, zero-mul, le-of-suc-le-suc}
 use native.Mathlib.Omega.{arith}
 use mathlib.Core.Bool.{Bool, true, false, not, _&&_, Bool·beq, cond}
 use lib.IntN.{ℤ, pos, negsuc, _+ℤ_}
@@ -13,10 +13,11 @@ use lib.Ieee.Fits.{core, round-is, and-l, and-r, down-pos}
 use lib.Ieee.Exact.{HasValue, units-val}
 use lib.Ieee.Nearest.{closest, closest-same}
 use lib.Ieee.Scale.{round-same, finite, overflow}
+use Rattle.wide.proofs.Nat.{sub-mul}
 use Rattle.double_double.specs.Exactness.{magnitude, sign, signed, value}
 use Rattle.double_double.proofs.Multiples.{distance}
 use Rattle.double_double.proofs.Precision.{rep-as, dropped, toDigits, Representable, rep-zero, toDigits-keeps}
-use Rattle.double_double.proofs.Signed.{posPart, negPart, IsDifference, size-is, posPart-not, negPart-not}
+use Rattle.double_double.proofs.Signed.{posPart, negPart, IsDifference, NotMinusZero, size-is, sign-is, posPart-not, negPart-not}
 
 -- ---- `round` at a whole number of units
 pub round-grid : (f : Format) (s : Bool) (n : ℕ) → round f s n (2 ^ low f) ≡ units f s (closest n (2 ^ dropped (prec f) n)) (dropped (prec f) n)
@@ -55,9 +56,6 @@ T-ext true false h k = absurd (h tt)
 T-ext false true h k = absurd (k tt)
 T-ext false false h k = refl
 
-sub-mul : (a b c : ℕ) → (a - b) * c ≡ a * c - b * c
-sub-mul a b c = mul-comm (a - b) c ∙ mul-sub c a b ∙ ap (λ (x : ℕ). x - c * b) (mul-comm c a) ∙ ap (λ (x : ℕ). a * c - x) (mul-comm c b)
-
 scaled-lt : (a b c A B C : ℕ) → 0 < c → 0 < C → a * C ≡ A * c → b * C ≡ B * c → a < b → A < B
 scaled-lt a b c A B C p q x y h = lt-of-mul-lt-mul-right c (let k : a * C < b * C = mul-lt-mul-of-pos-right h q in omega arith)
 
@@ -78,27 +76,37 @@ sum-same f s a t b c A B C p q x y =
     apart2 l e = ap (λ (z : Bool). round f (s && z) (a - b) c) l ∙ round-same f (s && ltb B A) (a - b) c (A - B) C p q e
 
 -- ---- `sum` is `round` at one whole number with a sign
-pub record Rounded (f : Format) (x : Float) (P N c : ℕ) : Type 0 where
+pub record Rounded (f : Format) (s : Bool) (a : ℕ) (x : Float) (P N c : ℕ) : Type 0 where
   pub side : Bool
   pub size : ℕ
   pub same : x ≡ round f side size c
   pub is : IsDifference side size P N
+  pub not-minus : NotMinusZero s a → NotMinusZero side size
 
-pub sum-round : (f : Format) (s : Bool) (a : ℕ) (t : Bool) (b c : ℕ) → Rounded f (sum f s a t b c) (posPart s a + posPart t b) (negPart s a + negPart t b) c
+pub sum-round : (f : Format) (s : Bool) (a : ℕ) (t : Bool) (b c : ℕ) → Rounded f s a (sum f s a t b c) (posPart s a + posPart t b) (negPart s a + negPart t b) c
 unfolding sum
-sum-round f false a false b c = record { side = false; size = a + b; same = refl; is = omega arith }
-sum-round f true a true b c = record { side = true; size = a + b; same = refl; is = omega arith }
+sum-round f false a false b c = record { side = false; size = a + b; same = refl; is = omega arith; not-minus = λ k z. refl }
+sum-round f true a true b c = record { side = true; size = a + b; same = refl; is = omega arith; not-minus = λ k z. k (omega arith) }
 sum-round f false a true b c = go (ltb a b) (ltb→lt a b) (nltb→le a b)
   where
-    go : (z : Bool) → (T z → a < b) → (T (not z) → b ≤ a) → Rounded f (cond z (round f true (b - a) c) (round f false (a - b) c)) (a + 0) (0 + b) c
-    go true h k = let l = h tt in record { side = true; size = b - a; same = refl; is = omega arith }
-    go false h k = let l = k tt in record { side = false; size = a - b; same = refl; is = omega arith }
-sum-round f true a false b c = go (ltb a b) (ltb→lt a b) (nltb→le a b) (ltb b a) (nltb→le b a)
+    go : (z : Bool) → (T z → a < b) → (T (not z) → b ≤ a) → Rounded f false a (cond z (round f true (b - a) c) (round f false (a - b) c)) (a + 0) (0 + b) c
+    go true h k = let l = h tt in record { side = true; size = b - a; same = refl; is = omega arith; not-minus = λ k z. absurd (omega arith) }
+    go false h k = let l = k tt in record { side = false; size = a - b; same = refl; is = omega arith; not-minus = λ k z. refl }
+sum-round f true a false b c = go (ltb a b) (ltb→lt a b) (nltb→le a b) (ltb b a) (ltb→lt b a) (nltb→le b a)
   where
-    go : (z : Bool) → (T z → a < b) → (T (not z) → b ≤ a) → (w : Bool) → (T (not w) → a ≤ b) → Rounded f (cond z (round f false (b - a) c) (round f w (a - b) c)) (0 + b) (a + 0) c
-    go true h k w m = let l = h tt in record { side = false; size = b - a; same = refl; is = omega arith }
-    go false h k true m = let l = k tt in record { side = true; size = a - b; same = refl; is = omega arith }
-    go false h k false m = let l = k tt in let n = m tt in record { side = false; size = a - b; same = refl; is = omega arith }
+    go : (z : Bool) → (T z → a < b) → (T (not z) → b ≤ a) → (w : Bool) → (T w → b < a) → (T (not w) → a ≤ b) → Rounded f true a (cond z (round f false (b - a) c) (round f w (a - b) c)) (0 + b) (a + 0) c
+    go true h k w i m = let l = h tt in record { side = false; size = b - a; same = refl; is = omega arith; not-minus = λ k z. refl }
+    go false h k true i m = let l = i tt in record { side = true; size = a - b; same = refl; is = omega arith; not-minus = λ k z. absurd (omega arith) }
+    go false h k false i m = let l = k tt in let n = m tt in record { side = false; size = a - b; same = refl; is = omega arith; not-minus = λ k z. refl }
+
+-- where the first is not -0, the sum is known by the difference alone
+pub sum-is : (f : Format) (s : Bool) (a : ℕ) (t : Bool) (b c : ℕ) → NotMinusZero s a
+    → sum f s a t b c ≡ round f (ltb (posPart s a + posPart t b) (negPart s a + negPart t b)) (distance (posPart s a + posPart t b) (negPart s a + negPart t b)) c
+sum-is f s a t b c z =
+    let R = sum-round f s a t b c in
+    let P = posPart s a + posPart t b in
+    let N = negPart s a + negPart t b in
+    R .same ∙ (λ i. round f (sign-is (R .side) (R .size) P N (R .not-minus z) (R .is) i) (size-is (R .side) (R .size) P N (R .is) i) c)
 
 -- ---- the sum of two values
 pub add-is : (f : Format) (x y : Float) (s : Bool) (a : ℕ) (t : Bool) (b : ℕ) → HasValue x s a (2 ^ low f) → HasValue y t b (2 ^ low f) → add f x y ≡ sum f s a t b (2 ^ low f)

@@ -6,5 +6,5 @@ abbrev pub Middle : ℕ → Type 0
 Middle b = (600 ≤ b % 0x8000000000000000 / 0x10000000000000) × (b % 0x8000000000000000 / 0x10000000000000 < 1500)
 
 -- the pattern of the number rounded to 26 digits
-abbrev pub halfOf : ℕ → ℕ
-halfOf b = (b + 0x4000000) / 0x8000000 * 0x8000000
+abbrev pub highHalf : ℕ → ℕ
+highHalf b = (b + 0x4000000) / 0x8000000 * 0x8000000

@@ -13,7 +13,7 @@ ghost use lib.Ieee.{binary64, mul, neg, isNan};
 ghost use Rattle.pair.specs.Pair.{bits};
 ghost use Rattle.double_double.specs.Pairs.{fma, fastTwoSum, fastSum, aMul, sMul, dMul};
 ghost use Rattle.double_double.specs.Exactness.{SumExact, ProductExact};
-ghost use Rattle.double_double.specs.Machine.{Middle, halfOf};
+ghost use Rattle.double_double.specs.Machine.{Middle, highHalf};
 
 // Add a + b, assuming |a| >= |b|.
 pub fn fast_two_sum(a: f64, b: f64) -> Pair
@@ -85,7 +85,7 @@ fn is_middle(x: u64) -> bool
 // The number with the pattern x, rounded to 26 digits.
 fn high_half(x: u64) -> f64
     requires { ⌜ Middle x ⌝ }
-    ensures { λ r. ⌜ r ≡ bits (halfOf x) ⌝ }
+    ensures { λ r. ⌜ r ≡ bits (highHalf x) ⌝ }
 {
     f64::from_bits((x + 0x4000000) / 0x8000000 * 0x8000000)
 }

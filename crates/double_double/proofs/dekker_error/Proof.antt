@@ -1,6 +1,6 @@
 -- `double_double::dekker_error` meets its contract: Halves has the theorem. Assumes nothing.
 use borrow.Author.Needs.{needs}
-use Rattle.double_double.proofs.Halves.{error-is}
+use Rattle.double_double.proofs.Split.{error-is}
 use Rattle.double_double.proofs.dekker_error.Statement.{statement}
 use Rattle.double_double.proofs.dekker_error.Tie as tie
 

@@ -1,7 +1,7 @@
 -- `double_double::error_bits` meets its contract: where neither factor is a NaN, and both are far from the ends of the range, `dekker_error` has it. Assumes nothing.
 use mathlib.Core.Path.{refl}
 use borrow.Author.Needs.{needs}
-use Rattle.double_double.proofs.Halves.{factors, back}
+use Rattle.double_double.proofs.Split.{factors, back}
 use Rattle.double_double.proofs.error_bits.Statement.{statement}
 use Rattle.double_double.proofs.error_bits.Tie as tie
 

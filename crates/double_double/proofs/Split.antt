@@ -1,5 +1,5 @@
--- Patterns of numbers whose exponent field is far from both ends: the pattern rounded to a multiple of 2 ^ 27 is that of the number rounded to 26 digits, and what Dekker's
--- product of two such numbers leaves is the fused multiply-add. Assumes nothing.
+-- Veltkamp's splitting on patterns: where the exponent field is far from both ends, a pattern rounded to a multiple of 2 ^ 27 is that of the number rounded to 26 digits.
+-- So Dekker's product of two such numbers is the fused multiply-add. Assumes nothing.
 use mathlib.Core.Path.{_≡_, refl, sym, ap, _∙_, subst}
 use mathlib.Core.Logic.{inl, inr}
 use Prim.Native.Nat.{ℕ, suc, _+_, _-_, _*_, _/_, _%_, _^_, _≤_, _<_}
@@ -15,11 +15,12 @@ use lib.Ieee.Scale.{finite}
 use Rattle.ieee754.specs.Machine.{signOf}
 use Rattle.ieee754.proofs.Reading.{units-mid}
 use Rattle.double_double.specs.Pairs.{fma}
-use Rattle.double_double.specs.Machine.{Middle, halfOf}
+use Rattle.double_double.specs.Machine.{Middle, highHalf}
 use Rattle.double_double.proofs.Multiples.{either-order}
 use Rattle.double_double.proofs.Units.{has-finite}
 use Rattle.double_double.proofs.Nearest.{fused-nearest}
-use Rattle.double_double.proofs.Dekker.{Half, remainderOf, hi-finite, dekker}
+use Rattle.double_double.proofs.TwoProduct.{neg-finite}
+use Rattle.double_double.proofs.Dekker.{HighHalf, remainderOf, hi-finite, dekker}
 
 -- ---- the pattern of the high half
 abbrev significand : ℕ → ℕ
@@ -29,46 +30,46 @@ abbrev place : ℕ → ℕ
 place b = b % 0x8000000000000000 / 0x10000000000000 - 1
 
 -- the sign stays
-sign-stays : (b : ℕ) → Middle b → signOf (halfOf b) ≡ signOf b
+sign-stays : (b : ℕ) → Middle b → signOf (highHalf b) ≡ signOf b
 sign-stays b h =
     elim (either-order 0x8000000000000000 b) [
-      | inl g ↦ le-leb 0x8000000000000000 (halfOf b) (omega arith) ∙ sym (le-leb 0x8000000000000000 b g)
-      | inr g ↦ lt-leb 0x8000000000000000 (halfOf b) (omega arith) ∙ sym (lt-leb 0x8000000000000000 b g)
+      | inl g ↦ le-leb 0x8000000000000000 (highHalf b) (omega arith) ∙ sym (le-leb 0x8000000000000000 b g)
+      | inr g ↦ lt-leb 0x8000000000000000 (highHalf b) (omega arith) ∙ sym (lt-leb 0x8000000000000000 b g)
     ]
 
-half-at : (b x : ℕ) (s : Bool) (H i : ℕ) → signOf b ≡ s → b % 0x8000000000000000 / 0x10000000000000 ≡ suc x → b % 0x8000000000000000 < 0x7ff0000000000000 → significand b * 2 ^ x ≡ H * 2 ^ i
+high-at : (b x : ℕ) (s : Bool) (H i : ℕ) → signOf b ≡ s → b % 0x8000000000000000 / 0x10000000000000 ≡ suc x → b % 0x8000000000000000 < 0x7ff0000000000000 → significand b * 2 ^ x ≡ H * 2 ^ i
     → HasValue (ofBits binary64 b) s (H * 2 ^ i) (2 ^ 1074)
-half-at b x s H i e g l h = subst (λ (t : Bool). HasValue (ofBits binary64 b) t (H * 2 ^ i) (2 ^ 1074)) e (subst (λ (n : ℕ). HasValue (ofBits binary64 b) (signOf b) n (2 ^ 1074)) h (units-mid b x g l .value))
+high-at b x s H i e g l h = subst (λ (t : Bool). HasValue (ofBits binary64 b) t (H * 2 ^ i) (2 ^ 1074)) e (subst (λ (n : ℕ). HasValue (ofBits binary64 b) (signOf b) n (2 ^ 1074)) h (units-mid b x g l .value))
 
 -- the significand rounded
 abbrev cut : ℕ → ℕ
 cut b = (significand b + 0x4000000) / 0x8000000 * 0x8000000
 
-high-value : (b : ℕ) → Middle b → HasValue (ofBits binary64 (halfOf b)) (signOf b) (cut b * 2 ^ place b) (2 ^ 1074)
+high-value : (b : ℕ) → Middle b → HasValue (ofBits binary64 (highHalf b)) (signOf b) (cut b * 2 ^ place b) (2 ^ 1074)
 high-value b h =
     elim (either-order 0x10000000000000 (b % 0x10000000000000 + 0x4000000)) [
-      | inl g ↦ half-at (halfOf b) (suc (place b)) (signOf b) (cut b) (place b) (sign-stays b h) (next b (halfOf b) h (carry b g)) (omega (arith, next b (halfOf b) h (carry b g)))
+      | inl g ↦ high-at (highHalf b) (suc (place b)) (signOf b) (cut b) (place b) (sign-stays b h) (next b (highHalf b) h (carry b g)) (omega (arith, next b (highHalf b) h (carry b g)))
           (ap (λ (x : ℕ). x * 2 ^ suc (place b)) (carried b g) ∙ ap (λ (x : ℕ). 0x10000000000000 * x) (pow-succ' 2 (place b)) ∙ sym (mul-assoc 0x10000000000000 2 (2 ^ place b)) ∙ ap (λ (x : ℕ). x * 2 ^ place b) (sym (full b g)))
-      | inr g ↦ half-at (halfOf b) (place b) (signOf b) (cut b) (place b) (sign-stays b h) (omega arith) (omega arith) (ap (λ (x : ℕ). x * 2 ^ place b) (kept b g))
+      | inr g ↦ high-at (highHalf b) (place b) (signOf b) (cut b) (place b) (sign-stays b h) (omega arith) (omega arith) (ap (λ (x : ℕ). x * 2 ^ place b) (kept b g))
     ]
   where
-    carry : (b : ℕ) → 0x10000000000000 ≤ b % 0x10000000000000 + 0x4000000 → halfOf b + b % 0x10000000000000 ≡ b + 0x10000000000000
+    carry : (b : ℕ) → 0x10000000000000 ≤ b % 0x10000000000000 + 0x4000000 → highHalf b + b % 0x10000000000000 ≡ b + 0x10000000000000
     carry b g = omega arith
 
     next : (b c : ℕ) → Middle b → c + b % 0x10000000000000 ≡ b + 0x10000000000000 → c % 0x8000000000000000 / 0x10000000000000 ≡ suc (suc (place b))
     next b c h e = omega arith
 
-    carried : (b : ℕ) → 0x10000000000000 ≤ b % 0x10000000000000 + 0x4000000 → significand (halfOf b) ≡ 0x10000000000000
+    carried : (b : ℕ) → 0x10000000000000 ≤ b % 0x10000000000000 + 0x4000000 → significand (highHalf b) ≡ 0x10000000000000
     carried b g = omega arith
 
     full : (b : ℕ) → 0x10000000000000 ≤ b % 0x10000000000000 + 0x4000000 → cut b ≡ 0x20000000000000
     full b g = omega arith
 
-    kept : (b : ℕ) → b % 0x10000000000000 + 0x4000000 < 0x10000000000000 → significand (halfOf b) ≡ cut b
+    kept : (b : ℕ) → b % 0x10000000000000 + 0x4000000 < 0x10000000000000 → significand (highHalf b) ≡ cut b
     kept b g = omega arith
 
-pub halves : (b : ℕ) → Middle b → Half binary64 (place b) (signOf b) (ofBits binary64 b) (ofBits binary64 (halfOf b)) (significand b) (cut b)
-halves b h = record {
+pub high-half : (b : ℕ) → Middle b → HighHalf binary64 (place b) (signOf b) (ofBits binary64 b) (ofBits binary64 (highHalf b)) (significand b) (cut b)
+high-half b h = record {
   value = units-mid b (place b) (omega arith) (omega arith) .value;
   high = high-value b h;
   least = omega arith;
@@ -96,19 +97,15 @@ factors a b hi e h = go a b (subst (λ (z : Float). eq z z ≡ true) e h)
     go (fin s m e) (fin t n d) h = (tt, tt)
 
 -- the pattern of a high half is no NaN's
-pub half-number : (b : ℕ) → Middle b → T (not (nanBits binary64 (halfOf b)))
-half-number b h = subst (λ (t : Bool). T (not t)) (sym (nanBits-above binary64 (halfOf b) ∙ le-ltb 0x7ff0000000000000 (halfOf b % 0x8000000000000000) (omega arith))) tt
+pub high-number : (b : ℕ) → Middle b → T (not (nanBits binary64 (highHalf b)))
+high-number b h = subst (λ (t : Bool). T (not t)) (sym (nanBits-above binary64 (highHalf b) ∙ le-ltb 0x7ff0000000000000 (highHalf b % 0x8000000000000000) (omega arith))) tt
 
 number : (x : Float) → T (finite x) → T (not (isNan x))
 unfolding isNan
 number (fin s m e) t = tt
 
-neg-finite : (x : Float) → T (finite x) → T (finite (neg x))
-unfolding neg
-neg-finite (fin s m e) t = t
-
 -- ---- the theorem
-pub error-is : (a b ah bh hi : Float) (x y : ℕ) → ofBits binary64 x ≡ a → ofBits binary64 y ≡ b → Middle x → Middle y → hi ≡ mul binary64 a b → ah ≡ ofBits binary64 (halfOf x) → bh ≡ ofBits binary64 (halfOf y)
+pub error-is : (a b ah bh hi : Float) (x y : ℕ) → ofBits binary64 x ≡ a → ofBits binary64 y ≡ b → Middle x → Middle y → hi ≡ mul binary64 a b → ah ≡ ofBits binary64 (highHalf x) → bh ≡ ofBits binary64 (highHalf y)
     → (remainderOf binary64 a b ah bh hi ≡ fma a b (neg hi)) × T (not (isNan (remainderOf binary64 a b ah bh hi)))
 error-is a b ah bh hi x y ea eb p q e g h =
     let X = half-of a x ea p in
@@ -120,11 +117,11 @@ error-is a b ah bh hi x y ea eb p q e g h =
     let nb = has-finite b (signOf y) (significand y * 2 ^ place y) (2 ^ 1074) (Y .value) in
     let nh = neg-finite (mul binary64 a b) (hi-finite binary64 refl w o room X Y) in
     let d = dekker binary64 refl w o room X Y in
-    let n : remainderOf binary64 a b ah bh hi ≡ remainderOf binary64 a b (ofBits binary64 (halfOf x)) (ofBits binary64 (halfOf y)) (mul binary64 a b) = λ i. remainderOf binary64 a b (g i) (h i) (e i) in
+    let n : remainderOf binary64 a b ah bh hi ≡ remainderOf binary64 a b (ofBits binary64 (highHalf x)) (ofBits binary64 (highHalf y)) (mul binary64 a b) = λ i. remainderOf binary64 a b (g i) (h i) (e i) in
     (n ∙ d .0 ∙ sym (fused-nearest a b (neg (mul binary64 a b)) na nb nh) ∙ ap (λ (z : Float). fma a b (neg z)) (sym e), number (remainderOf binary64 a b ah bh hi) (subst (λ (z : Float). T (finite z)) (sym n) (d .1)))
   where
-    half-of : (z : Float) (x : ℕ) → ofBits binary64 x ≡ z → Middle x → Half binary64 (place x) (signOf x) z (ofBits binary64 (halfOf x)) (significand x) (cut x)
-    half-of z x f m = subst (λ (v : Float). Half binary64 (place x) (signOf x) v (ofBits binary64 (halfOf x)) (significand x) (cut x)) f (halves x m)
+    half-of : (z : Float) (x : ℕ) → ofBits binary64 x ≡ z → Middle x → HighHalf binary64 (place x) (signOf x) z (ofBits binary64 (highHalf x)) (significand x) (cut x)
+    half-of z x f m = subst (λ (v : Float). HighHalf binary64 (place x) (signOf x) v (ofBits binary64 (highHalf x)) (significand x) (cut x)) f (high-half x m)
 
 pub back : (r z : Float) → fits binary64 r ≡ true → r ≡ z → ofBits binary64 (toBits binary64 r) ≡ z
 back r z f e = ofBits-toBits binary64 r (subst T (sym f) tt) ∙ e
