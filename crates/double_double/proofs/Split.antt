@@ -12,10 +12,10 @@ use lib.Ieee.{Float, nan, inf, fin, binary64, mul, neg, eq, isNan, nanBits, fits
 use lib.Ieee.Exact.{HasValue}
 use lib.Ieee.Bits.{nanBits-above, ofBits-toBits}
 use lib.Ieee.Scale.{finite}
-use Rattle.ieee754.specs.Machine.{signOf}
+use Rattle.ieee754.specs.Machine.{signOf, fieldOf, Middle}
 use Rattle.ieee754.proofs.Reading.{units-mid}
 use Rattle.double_double.specs.Pairs.{fma}
-use Rattle.double_double.specs.Machine.{Middle, highHalf}
+use Rattle.double_double.specs.Machine.{highHalf}
 use Rattle.double_double.proofs.Multiples.{either-order}
 use Rattle.double_double.proofs.Units.{has-finite}
 use Rattle.double_double.proofs.Nearest.{fused-nearest}
@@ -27,17 +27,17 @@ abbrev significand : ℕ → ℕ
 significand b = 0x10000000000000 + b % 0x10000000000000
 
 abbrev place : ℕ → ℕ
-place b = b % 0x8000000000000000 / 0x10000000000000 - 1
+place b = fieldOf b - 1
 
 -- the sign stays
-sign-stays : (b : ℕ) → Middle b → signOf (highHalf b) ≡ signOf b
+sign-stays : (b : ℕ) → Middle (fieldOf b) → signOf (highHalf b) ≡ signOf b
 sign-stays b h =
     elim (either-order 0x8000000000000000 b) [
       | inl g ↦ le-leb 0x8000000000000000 (highHalf b) (omega arith) ∙ sym (le-leb 0x8000000000000000 b g)
       | inr g ↦ lt-leb 0x8000000000000000 (highHalf b) (omega arith) ∙ sym (lt-leb 0x8000000000000000 b g)
     ]
 
-high-at : (b x : ℕ) (s : Bool) (H i : ℕ) → signOf b ≡ s → b % 0x8000000000000000 / 0x10000000000000 ≡ suc x → b % 0x8000000000000000 < 0x7ff0000000000000 → significand b * 2 ^ x ≡ H * 2 ^ i
+high-at : (b x : ℕ) (s : Bool) (H i : ℕ) → signOf b ≡ s → fieldOf b ≡ suc x → b % 0x8000000000000000 < 0x7ff0000000000000 → significand b * 2 ^ x ≡ H * 2 ^ i
     → HasValue (ofBits binary64 b) s (H * 2 ^ i) (2 ^ 1074)
 high-at b x s H i e g l h = subst (λ (t : Bool). HasValue (ofBits binary64 b) t (H * 2 ^ i) (2 ^ 1074)) e (subst (λ (n : ℕ). HasValue (ofBits binary64 b) (signOf b) n (2 ^ 1074)) h (units-mid b x g l .value))
 
@@ -45,7 +45,7 @@ high-at b x s H i e g l h = subst (λ (t : Bool). HasValue (ofBits binary64 b) t
 abbrev cut : ℕ → ℕ
 cut b = (significand b + 0x4000000) / 0x8000000 * 0x8000000
 
-high-value : (b : ℕ) → Middle b → HasValue (ofBits binary64 (highHalf b)) (signOf b) (cut b * 2 ^ place b) (2 ^ 1074)
+high-value : (b : ℕ) → Middle (fieldOf b) → HasValue (ofBits binary64 (highHalf b)) (signOf b) (cut b * 2 ^ place b) (2 ^ 1074)
 high-value b h =
     elim (either-order 0x10000000000000 (b % 0x10000000000000 + 0x4000000)) [
       | inl g ↦ high-at (highHalf b) (suc (place b)) (signOf b) (cut b) (place b) (sign-stays b h) (next b (highHalf b) h (carry b g)) (omega (arith, next b (highHalf b) h (carry b g)))
@@ -56,7 +56,7 @@ high-value b h =
     carry : (b : ℕ) → 0x10000000000000 ≤ b % 0x10000000000000 + 0x4000000 → highHalf b + b % 0x10000000000000 ≡ b + 0x10000000000000
     carry b g = omega arith
 
-    next : (b c : ℕ) → Middle b → c + b % 0x10000000000000 ≡ b + 0x10000000000000 → c % 0x8000000000000000 / 0x10000000000000 ≡ suc (suc (place b))
+    next : (b c : ℕ) → Middle (fieldOf b) → c + b % 0x10000000000000 ≡ b + 0x10000000000000 → fieldOf c ≡ suc (suc (place b))
     next b c h e = omega arith
 
     carried : (b : ℕ) → 0x10000000000000 ≤ b % 0x10000000000000 + 0x4000000 → significand (highHalf b) ≡ 0x10000000000000
@@ -68,7 +68,7 @@ high-value b h =
     kept : (b : ℕ) → b % 0x10000000000000 + 0x4000000 < 0x10000000000000 → significand (highHalf b) ≡ cut b
     kept b g = omega arith
 
-pub high-half : (b : ℕ) → Middle b → HighHalf binary64 (place b) (signOf b) (ofBits binary64 b) (ofBits binary64 (highHalf b)) (significand b) (cut b)
+pub high-half : (b : ℕ) → Middle (fieldOf b) → HighHalf binary64 (place b) (signOf b) (ofBits binary64 b) (ofBits binary64 (highHalf b)) (significand b) (cut b)
 high-half b h = record {
   value = units-mid b (place b) (omega arith) (omega arith) .value;
   high = high-value b h;
@@ -97,7 +97,7 @@ factors a b hi e h = go a b (subst (λ (z : Float). eq z z ≡ true) e h)
     go (fin s m e) (fin t n d) h = (tt, tt)
 
 -- the pattern of a high half is no NaN's
-pub high-number : (b : ℕ) → Middle b → T (not (nanBits binary64 (highHalf b)))
+pub high-number : (b : ℕ) → Middle (fieldOf b) → T (not (nanBits binary64 (highHalf b)))
 high-number b h = subst (λ (t : Bool). T (not t)) (sym (nanBits-above binary64 (highHalf b) ∙ le-ltb 0x7ff0000000000000 (highHalf b % 0x8000000000000000) (omega arith))) tt
 
 number : (x : Float) → T (finite x) → T (not (isNan x))
@@ -105,7 +105,7 @@ unfolding isNan
 number (fin s m e) t = tt
 
 -- ---- the theorem
-pub error-is : (a b ah bh hi : Float) (x y : ℕ) → ofBits binary64 x ≡ a → ofBits binary64 y ≡ b → Middle x → Middle y → hi ≡ mul binary64 a b → ah ≡ ofBits binary64 (highHalf x) → bh ≡ ofBits binary64 (highHalf y)
+pub error-is : (a b ah bh hi : Float) (x y : ℕ) → ofBits binary64 x ≡ a → ofBits binary64 y ≡ b → Middle (fieldOf x) → Middle (fieldOf y) → hi ≡ mul binary64 a b → ah ≡ ofBits binary64 (highHalf x) → bh ≡ ofBits binary64 (highHalf y)
     → (remainderOf binary64 a b ah bh hi ≡ fma a b (neg hi)) × T (not (isNan (remainderOf binary64 a b ah bh hi)))
 error-is a b ah bh hi x y ea eb p q e g h =
     let X = half-of a x ea p in
@@ -120,7 +120,7 @@ error-is a b ah bh hi x y ea eb p q e g h =
     let n : remainderOf binary64 a b ah bh hi ≡ remainderOf binary64 a b (ofBits binary64 (highHalf x)) (ofBits binary64 (highHalf y)) (mul binary64 a b) = λ i. remainderOf binary64 a b (g i) (h i) (e i) in
     (n ∙ d .0 ∙ sym (fused-nearest a b (neg (mul binary64 a b)) na nb nh) ∙ ap (λ (z : Float). fma a b (neg z)) (sym e), number (remainderOf binary64 a b ah bh hi) (subst (λ (z : Float). T (finite z)) (sym n) (d .1)))
   where
-    half-of : (z : Float) (x : ℕ) → ofBits binary64 x ≡ z → Middle x → HighHalf binary64 (place x) (signOf x) z (ofBits binary64 (highHalf x)) (significand x) (cut x)
+    half-of : (z : Float) (x : ℕ) → ofBits binary64 x ≡ z → Middle (fieldOf x) → HighHalf binary64 (place x) (signOf x) z (ofBits binary64 (highHalf x)) (significand x) (cut x)
     half-of z x f m = subst (λ (v : Float). HighHalf binary64 (place x) (signOf x) v (ofBits binary64 (highHalf x)) (significand x) (cut x)) f (high-half x m)
 
 pub back : (r z : Float) → fits binary64 r ≡ true → r ≡ z → ofBits binary64 (toBits binary64 r) ≡ z

@@ -3,17 +3,18 @@
 // Each function promises the pair that the definition of its name in specs/Pairs.antt gives for the same operands.
 // fast_two_sum and a_mul also promise where nothing is lost (specs/Exactness.antt). In a product lo stays a pattern until its last step.
 
+use ieee754::field;
+use ieee754::is_middle;
 use pair::Pair;
-use rounding::LEADING;
-use rounding::SIGN;
 ghost use mathlib.Core.Path.{_≡_};
-ghost use mathlib.Core.Bool.{true, not};
+ghost use mathlib.Core.Bool.{not};
 ghost use lib.Dec.{T};
 ghost use lib.Ieee.{binary64, mul, neg, isNan};
+ghost use Rattle.ieee754.specs.Machine.{fieldOf, Middle};
 ghost use Rattle.pair.specs.Pair.{bits};
 ghost use Rattle.double_double.specs.Pairs.{fma, fastTwoSum, fastSum, aMul, sMul, dMul};
 ghost use Rattle.double_double.specs.Exactness.{SumExact, ProductExact};
-ghost use Rattle.double_double.specs.Machine.{Middle, highHalf};
+ghost use Rattle.double_double.specs.Machine.{highHalf};
 
 // Add a + b, assuming |a| >= |b|.
 pub fn fast_two_sum(a: f64, b: f64) -> Pair
@@ -72,27 +73,19 @@ pub fn a_mul(a: f64, b: f64) -> Pair
     Pair { hi, lo }
 }
 
-// ---- what hi = a * b leaves of the product
+// ---- the remainder of a product
 
-// Whether the exponent field of the pattern x is far from both ends.
-fn is_middle(x: u64) -> bool
-    ensures { λ r. ⌜ (r ≡ true → Middle x) ⌝ }
-{
-    let field = x % SIGN / LEADING;
-    if field < 600 { false } else { field < 1500 }
-}
-
-// The number with the pattern x, rounded to 26 digits.
+// The high half of the number with the pattern x: the number rounded to 26 digits (Veltkamp).
 fn high_half(x: u64) -> f64
-    requires { ⌜ Middle x ⌝ }
+    requires { ⌜ Middle (fieldOf x) ⌝ }
     ensures { λ r. ⌜ r ≡ bits (highHalf x) ⌝ }
 {
     f64::from_bits((x + 0x4000000) / 0x8000000 * 0x8000000)
 }
 
-// a * b - hi for a and b with the patterns x and y: Dekker's product. Every step is exact.
+// a * b - hi, where a and b have the patterns x and y (Dekker): with products of halves every step is exact.
 fn dekker_error(a: f64, b: f64, hi: f64, x: u64, y: u64) -> f64
-    requires { ⌜ (bits x ≡ a) × (bits y ≡ b) × Middle x × Middle y × (hi ≡ mul binary64 a b) ⌝ }
+    requires { ⌜ (bits x ≡ a) × (bits y ≡ b) × Middle (fieldOf x) × Middle (fieldOf y) × (hi ≡ mul binary64 a b) ⌝ }
     ensures { λ r. ⌜ (r ≡ fma a b (neg hi)) × T (not (isNan r)) ⌝ }
 {
     let ah = high_half(x);
@@ -102,7 +95,7 @@ fn dekker_error(a: f64, b: f64, hi: f64, x: u64, y: u64) -> f64
     ah * bh - hi + ah * bl + al * bh + al * bl
 }
 
-// The pattern of a * b - hi, where hi is a * b rounded.
+// The pattern of a * b - hi, where hi is a * b rounded. Far from both ends of the exponents f64 operations will do, and that is quicker.
 fn error_bits(a: f64, b: f64, hi: f64) -> u64
     requires { ⌜ hi ≡ mul binary64 a b ⌝ }
     ensures { λ r. ⌜ bits r ≡ fma a b (neg hi) ⌝ }
@@ -111,8 +104,8 @@ fn error_bits(a: f64, b: f64, hi: f64) -> u64
     if hi == hi {
         let x = f64::to_bits(a);
         let y = f64::to_bits(b);
-        if is_middle(x) {
-            if is_middle(y) {
+        if is_middle(field(x)) {
+            if is_middle(field(y)) {
                 return f64::to_bits(dekker_error(a, b, hi, x, y));
             }
         }
@@ -120,7 +113,7 @@ fn error_bits(a: f64, b: f64, hi: f64) -> u64
     fused_error(a, b, hi)
 }
 
-// The same by a fused multiply-add, for any a, b and hi.
+// The same by a fused multiply-add, for all operands.
 fn fused_error(a: f64, b: f64, hi: f64) -> u64
     ensures { λ r. ⌜ bits r ≡ fma a b (neg hi) ⌝ }
 {

@@ -1,19 +1,15 @@
 -- What the functions of this crate say of each other. Nothing here is part of what an operation means. Definitions only.
 use mathlib.Core.Path.{_≡_}
 use mathlib.Core.Logic.{_≢_, _⊎_}
-use Prim.Native.Nat.{ℕ, _+_, _/_, _≤_, _<_}
+use Prim.Native.Nat.{ℕ, _+_, _≤_, _<_}
 use mathlib.Core.Bool.{Bool}
 use Rattle.ieee754.specs.declared.Parts.{Parts}
-use Rattle.ieee754.specs.Machine.{magnitude, Normal}
-
--- the exponent field
-abbrev pub fieldOf : ℕ → ℕ
-fieldOf b = magnitude b / 0x10000000000000
+use Rattle.ieee754.specs.Machine.{Middle, Normal}
 
 -- three exponent fields: the last digit of the third's number is one of the product of the others, or at most 20 above it
 pub record Near (x y z : ℕ) : Type 0 where
-  pub first : (600 ≤ x) × (x < 1500)
-  pub second : (600 ≤ y) × (y < 1500)
+  pub first : Middle x
+  pub second : Middle y
   pub over : x + y ≤ z + 1075
   pub under : z + 1003 ≤ x + y
 
@@ -27,9 +23,9 @@ pub record NearParts (x y z : Parts) : Type 0 where
 
 -- three exponent fields: the product of the first two numbers is below 2 ^ -19 of the third
 pub record Small (x y z : ℕ) : Type 0 where
-  pub first : (600 ≤ x) × (x < 1500)
-  pub second : (600 ≤ y) × (y < 1500)
-  pub third : (600 ≤ z) × (z < 1500)
+  pub first : Middle x
+  pub second : Middle y
+  pub third : Middle z
   pub over : x + y ≤ z + 1002
 
 -- the same of the parts

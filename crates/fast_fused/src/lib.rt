@@ -8,9 +8,11 @@ ghost use lib.Ieee.{toBits, binary64};
 ghost use Rattle.wide.specs.Words.{value, jammed};
 ghost use Rattle.rounding.specs.declared.Direction.the-variants.{Nearest};
 ghost use Rattle.ieee754.specs.Operations.{sumTo, fusedBits};
-ghost use Rattle.ieee754.specs.Machine.{Reads, Summands, RoundsSum};
-ghost use Rattle.fast_fused.specs.Machine.{fieldOf, Near, NearParts, Small, SmallParts, SumOf};
+ghost use Rattle.ieee754.specs.Machine.{fieldOf, Reads, Summands, RoundsSum};
+ghost use Rattle.fast_fused.specs.Machine.{Near, NearParts, Small, SmallParts, SumOf};
 use ieee754::Parts;
+use ieee754::field;
+use ieee754::is_middle;
 use ieee754::negative;
 use ieee754::pick_sign;
 use ieee754::unlike_signs;
@@ -20,20 +22,6 @@ use rounding::SIGN;
 use wide::Wide;
 
 // ---- operands
-
-// The exponent field.
-fn field(b: u64) -> u64
-    ensures { λ r. ⌜ r ≡ fieldOf b ⌝ }
-{
-    b % SIGN / LEADING
-}
-
-// Whether an exponent field is far from both ends.
-fn is_middle(x: u64) -> bool
-    ensures { λ r. ⌜ (r ≡ true → (600 ≤ x) × (x < 1500)) ⌝ }
-{
-    if x < 600 { false } else { x < 1500 }
-}
 
 // The parts of a normal number.
 fn read_normal(b: u64) -> Parts

@@ -2,7 +2,7 @@
 -- operation means. Definitions only.
 use mathlib.Core.Path.{_≡_}
 use mathlib.Core.Logic.{_⊎_}
-use Prim.Native.Nat.{ℕ, _+_, _-_, _*_, _%_, _^_, _≤_, _<_}
+use Prim.Native.Nat.{ℕ, _+_, _-_, _*_, _/_, _%_, _^_, _≤_, _<_}
 use mathlib.Core.Bool.{Bool, cond}
 use lib.IntN.{ℤ, pos, negsuc}
 use lib.Dec.{leb, ltb}
@@ -21,6 +21,14 @@ signOf b = leb 0x8000000000000000 b
 
 abbrev pub magnitude : ℕ → ℕ
 magnitude b = b % 0x8000000000000000
+
+-- the exponent field
+abbrev pub fieldOf : ℕ → ℕ
+fieldOf b = magnitude b / 0x10000000000000
+
+-- an exponent field that is far from both ends
+abbrev pub Middle : ℕ → Type 0
+Middle x = (600 ≤ x) × (x < 1500)
 
 -- b is a pattern of a finite number that is not zero
 abbrev pub Regular : ℕ → Type 0

@@ -5,7 +5,7 @@ ghost use mathlib.Core.Path.{_≡_};
 ghost use mathlib.Core.Bool.{true, cond};
 ghost use Prim.Native.Nat.{_+_, _*_, _^_, _<_};
 ghost use lib.Ieee.{unlike};
-ghost use Rattle.ieee754.specs.Machine.{signOf, Regular, Normal, Reads};
+ghost use Rattle.ieee754.specs.Machine.{signOf, fieldOf, Middle, Regular, Normal, Reads};
 use rounding::INFINITY;
 use rounding::LEADING;
 use rounding::SIGN;
@@ -37,6 +37,20 @@ pub fn pick_sign(b: bool, x: bool, y: bool) -> bool
     ensures { λ r. ⌜ r ≡ cond b x y ⌝ }
 {
     if b { x } else { y }
+}
+
+// The exponent field.
+pub fn field(b: u64) -> u64
+    ensures { λ r. ⌜ r ≡ fieldOf b ⌝ }
+{
+    b % SIGN / LEADING
+}
+
+// Whether an exponent field is far from both ends.
+pub fn is_middle(x: u64) -> bool
+    ensures { λ r. ⌜ (r ≡ true → Middle x) ⌝ }
+{
+    if x < 600 { false } else { x < 1500 }
 }
 
 // Whether b is finite and not zero.

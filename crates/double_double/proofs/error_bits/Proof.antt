@@ -1,6 +1,8 @@
 -- `double_double::error_bits` meets its contract: where neither factor is a NaN, and both are far from the ends of the range, `dekker_error` has it. Assumes nothing.
-use mathlib.Core.Path.{refl}
+use mathlib.Core.Path.{refl, subst}
+use Prim.Native.Nat.{ℕ}
 use borrow.Author.Needs.{needs}
+use Rattle.ieee754.specs.Machine.{Middle}
 use Rattle.double_double.proofs.Split.{factors, back}
 use Rattle.double_double.proofs.error_bits.Statement.{statement}
 use Rattle.double_double.proofs.error_bits.Tie as tie
@@ -14,8 +16,15 @@ float-to-bits-y c = let s = c .before in factors (s .args .a) (s .args .b) (s .a
 dekker-error-requires : tie.Need-dekker-error-requires
 dekker-error-requires c κs =
     let c2 = c .before .before in
-    let s = c2 .before .before .before in
-    (back (s .args .a) _ (s .good .0 .1) refl, back (s .args .b) _ (s .good .1 .0 .1) refl, c2 .before .is-middle .ensures (c2 .if2 .taken), c .before .is-middle2 .ensures (c .if3 .taken), s .pre)
+    let c3 = c2 .before in
+    let c4 = c3 .before .before in
+    let s = c4 .before .before in (
+      back (s .args .a) _ (s .good .0 .1) refl,
+      back (s .args .b) _ (s .good .1 .0 .1) refl,
+      subst (λ (x : ℕ). Middle x) (c4 .field .ensures) (c3 .before .is-middle .ensures (c3 .if2 .taken)),
+      subst (λ (x : ℕ). Middle x) (c2 .field2 .ensures) (c .before .is-middle2 .ensures (c .if3 .taken)),
+      s .pre,
+    )
 
 float-to-bits-result : tie.Need-float-to-bits-result
 float-to-bits-result c = c .dekker-error .ensures .1
@@ -29,6 +38,8 @@ error-bits-spec =
     (tie.spec
     float-to-bits-x
     float-to-bits-y
+    (λ c κs. search needs)
+    (λ c κs. search needs)
     (λ c κs. search needs)
     (λ c κs. search needs)
     dekker-error-requires

@@ -1,9 +1,9 @@
--- `fast_fused::is_middle` meets its contract. Assumes nothing.
+-- `ieee754::is_middle` meets its contract. Assumes nothing.
 use mathlib.Core.Path.{sym}
 use mathlib.Core.Bool.{true≢false}
 use borrow.Author.Needs.{needs}
-use Rattle.fast_fused.proofs.is_middle.Statement.{statement}
-use Rattle.fast_fused.proofs.is_middle.Tie as tie
+use Rattle.ieee754.proofs.is_middle.Statement.{statement}
+use Rattle.ieee754.proofs.is_middle.Tie as tie
 
 returns : tie.Need-returns
 returns c = λ e. absurd (true≢false (sym e))
