@@ -1,10 +1,10 @@
 # make run          the weigher on standard input and output
-# make test         the gate: the comparisons, the examples, the program from outside, layout, and rt ci
+# make test         the gate: the constants, the comparisons, the examples, the program from outside, layout, and rt ci
 # make archive      target/staticlib/libcapi.a, the functions of include/weigher.h for C and Rust to link
 # make bench        times the operations beside the machine's, musl's and the Rust's, and the program on whole streams beside the Rust service and cat
 # make connections  400 connections under socat, each answer compared (tests/README.md)
 # make faults       readers and peers that go or stall, signals, failing calls, 200 instances, a gigabyte of frames (tests/README.md)
-.PHONY: run test proved archive program compare examples outside bench connections faults
+.PHONY: run test proved archive program constants compare examples outside bench connections faults
 
 # One rt at a time works in target/.
 .NOTPARALLEL:
@@ -22,7 +22,7 @@ run:
 	@rt check weigher >&2
 	@target/bin/weigher
 
-test: proved compare examples outside
+test: constants proved compare examples outside
 	docs/check-proofs.sh
 	rt fmt --check
 	rt ci
@@ -36,6 +36,10 @@ archive:
 
 program:
 	rt check weigher
+
+# Each constant of the Rust source beside the definitions' and the code's, where the source is there.
+constants:
+	tests/constants.sh
 
 # Edge cases and a million random ones of each operation, where rustc is there; the score and random streams where the Rust source is too.
 compare: archive program

@@ -26,11 +26,13 @@ const MINUS_ONE: f64 = -1.0;
 
 const MINUS_53: f64 = -53.0;
 
-const TWO_106: f64 = 8.112963841460668e31; // 0x1p106
+const TWO_106: f64 = f64::from_bits(0x4690000000000000); // 0x1p106
 
-const TWO_M106: f64 = 1.232595164407831e-32; // 0x1p-106
+const TWO_M106: f64 = f64::from_bits(0x3950000000000000); // 0x1p-106
 
-const C2: f64 = 0.24022650695910072; // log(2)^2/2
+const C2: f64 = f64::from_bits(0x3fcebfbdff82c58f); // 0x1.ebfbdff82c58fp-3, log(2)^2/2
+
+const FAST_ERROR: f64 = f64::from_bits(0x3b84200000000000); // 0x1.42p-71 > 2^-70.67
 
 // The score of the weight with the bits x: the bits of 2^x - 1.
 pub fn score(x: u64) -> u64
@@ -184,7 +186,7 @@ fn exp2m1_fast(x: f64, tiny: bool) -> Estimate
     let p = exponential::exp_1(p);
     // hi_out + lo_out = exp(hi + lo) * (1 + eps) with |eps| < 2^-74.139
     let pair = subtract_one(x, p);
-    let err = 5.327043144841498e-22 * pair.hi; // 2^-70.67 < 0x1.42p-71
+    let err = FAST_ERROR * pair.hi;
     Estimate { pair, err }
 }
 
