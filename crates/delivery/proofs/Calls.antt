@@ -10,11 +10,9 @@ use lib.Seq.{take-add, take-append-seam, drop-drop}
 use borrow.Author.Tests.{ltb-true, ne-eqb}
 use Rattle.frames.specs.Frame.{answerRoom, whole}
 use Rattle.service.specs.Book.{Book, emptyBook, Call, Take, Entry, Reply, stateOf, bookTake, bookCall, bookReplies, replyOf, bufferOf, isSmall}
-use Rattle.service.specs.Service.{freshState, stateAfter}
 use Rattle.service.specs.Stream.{Item, byte, joinedFrom, writtenBy, written}
 use Rattle.service.specs.Demands.{bookAfter, handedOn, AllLarge}
-use Rattle.service.specs.declared.State.{State}
-use Rattle.service.proofs.Simulation.{call-book, held-short, fresh-whole, whole-none}
+use Rattle.service.proofs.Simulation.{held-short}
 use Rattle.service.proofs.Demands.{map-append, joined-append}
 use Rattle.delivery.specs.Delivery.{Given, andThen, takes}
 use Rattle.delivery.proofs.Takes.{uses}
@@ -37,17 +35,6 @@ replies-append (c ∷ cs) ds b = ap {B = List Reply} (λ l. replyOf (bookCall b 
 pub after-append : (cs ds : List Call) (b : Book) → bookAfter b (cs ++ ds) ≡ bookAfter (bookAfter b cs) ds
 after-append [] ds b = refl
 after-append (c ∷ cs) ds b = after-append cs ds (bookCall b c .book)
-
-pub after-unfinished : (cs : List Call) (b : Book) → whole (b .held) ≡ false → whole (bookAfter b cs .held) ≡ false
-after-unfinished [] b w = w
-after-unfinished (c ∷ cs) b w = after-unfinished cs (bookCall b c .book) (held-short c b w)
-
-after-state : (cs : List Call) (b : Book) → whole (b .held) ≡ false → stateAfter (stateOf b) cs ≡ stateOf (bookAfter b cs)
-after-state [] b w = refl
-after-state (c ∷ cs) b w = ap (λ (r : Reply). stateAfter (r .state) cs) (call-book c b w) ∙ after-state cs (bookCall b c .book) (held-short c b w)
-
-pub after-fresh : (cs : List Call) → stateAfter freshState cs ≡ stateOf (bookAfter emptyBook cs)
-after-fresh cs = ap (λ (s : State). stateAfter s cs) (sym fresh-whole) ∙ after-state cs emptyBook whole-none
 
 -- the answers that the book gave, one after another
 abbrev pub answersTo : Book → List Call → List ℕ

@@ -6,18 +6,19 @@ use mathlib.Core.List.{List, [], _∷_, _++_, map, append-assoc}
 use mathlib.Core.Bool.{Bool, true, false}
 use native.Mathlib.Omega.{arith}
 use lib.ListN.{length, take, drop, length-drop, take-append-drop}
-use Rattle.frames.specs.Frame.{whole}
-use Rattle.partial_frame.specs.State.{isLeft, Left}
-use Rattle.partial_frame.proofs.Reach.{left-test}
+use Rattle.frames.specs.Frame.{longestBody, whole}
+use Rattle.partial_frame.specs.State.{frameOf, isLeft}
 use Rattle.service.specs.Memory.{Memory, viewOf}
-use Rattle.service.specs.Book.{Book, emptyBook, Call, Take, Close, Entry, Moved, move, settled, bookTake, closedWith, bookCall, bookReplies, isSmall}
-use Rattle.service.specs.Service.{isGood, bookOf, untouched, takeOf, closeOf, serviceRun, stateAfter}
+use Rattle.service.specs.Book.{Book, emptyBook, Call, Take, Close, Entry, Moved, Reply, move, settled, bookTake, closedWith, bookCall, bookReplies, isSmall}
+use Rattle.service.specs.Service.{isGood, bookOf, untouched, takeOf, closeOf, serviceRun}
 use Rattle.service.specs.Stream.{Item, byte, joined, joinedFrom, movedBy, pointsOf, answersFrom, written}
-use Rattle.service.specs.Demands.{Demand1, Demand3, Typed, Never7, AllLarge, handedOn, bookAfter, FreshAfter, SameAnswers, run}
+use Rattle.service.specs.Demands.{Demand1, Demand3, Unreached, AllLarge, handedOn, bookAfter, SameAnswers, run}
 use Rattle.service.specs.declared.State.{State}
-use Rattle.service.proofs.Memory.{answer-number}
-use Rattle.service.proofs.Simulation.{fresh-whole, run-book, whole-none, take-book, close-book}
-use Rattle.service.proofs.Streams.{written-points, fresh-after, same-answers, state-after}
+use Rattle.service.proofs.Memory.{answer-number, none-shows}
+use Rattle.service.proofs.Simulation.{fresh-whole, run-book, whole-none, take-book, close-book, after-fresh, reply-after}
+use Rattle.service.proofs.Streams.{written-points, fresh-after, same-answers, held-rest}
+use Rattle.service.proofs.Isolation.{alike-blanked}
+use Rattle.service.proofs.Calls.{shown-by}
 use Rattle.service.proofs.Partition.{part-right, part-unique}
 
 -- ---- the numbers
@@ -47,10 +48,6 @@ book-never-7 b (Close buffer) = go (isSmall buffer) refl
     go : (t : Bool) → isSmall buffer ≡ t → bookCall b (Close buffer) .number ≢ 7
     go true e = rw e (λ z. let w : ⊥ = omega arith in w)
     go false e = rw e (close-number (b .held) (b .memory))
-
-never-7 : (cs : List Call) (b : Book) → Never7 (bookReplies b cs)
-never-7 [] b = tt
-never-7 (c ∷ cs) b = (book-never-7 b c, never-7 cs (bookCall b c .book))
 
 -- ---- pieces handed on
 
@@ -100,25 +97,27 @@ pub demand-3 : Demand3
 demand-3 =
     record {
       book = as-book;
-      never7 = λ cs. subst Never7 (sym (as-book cs)) (never-7 cs emptyBook);
+      never7 = λ cs c. subst (λ (r : Reply). r .number ≢ 7) (sym (reply-after cs c)) (book-never-7 (bookAfter emptyBook cs) c);
       partition = λ cs. part-right (joined cs);
       onlyPartition = λ cs. part-unique (joined cs);
       answers = as-answers;
-      fresh = λ cs. subst (FreshAfter cs) (sym (as-book cs)) (fresh-after cs emptyBook);
-      held = λ cs. ap (λ (s : State). stateAfter s cs .frame) (sym fresh-whole) ∙ state-after cs emptyBook whole-none;
+      fresh = λ cs c n. ap (λ (r : Reply). r .state) (reply-after cs c) ∙ fresh-after cs c emptyBook whole-none n;
+      held = λ cs. ap (λ (s : State). s .frame) (after-fresh cs) ∙ ap frameOf (held-rest cs emptyBook whole-none);
       isolated = λ cs ds a. subst₂ (SameAnswers (pointsOf cs) (pointsOf ds)) (sym (as-answers cs)) (sym (as-answers ds)) (same-answers (emptyBook .memory) (emptyBook .memory) a);
+      alike = λ cs ds. alike-blanked (joined cs) (joined ds);
+      noneShows = none-shows;
       handed = λ cs piece buffers a l.
           joined-append cs (handedOn (bookAfter emptyBook cs) piece buffers) emptyBook ∙ ap (λ (i : List Item). joined cs ++ i) (handed-all buffers (bookAfter emptyBook cs) piece a l);
     }
 
 -- ---- demand 1
 
-not-good : (s : State) → Typed s → (Left (s .frame) → ⊥) → isGood s ≡ false
-unfolding isGood
-not-good s t n = go (isLeft (s .frame)) refl
+not-good : (s : State) → length (s .frame .body) ≡ longestBody → Unreached s → isGood s ≡ false
+unfolding isGood bookOf
+not-good s l n = go (isLeft (s .frame)) refl
   where
     go : (t : Bool) → isLeft (s .frame) ≡ t → isGood s ≡ false
-    go true e = absurd (n (left-test (s .frame) (t .places) .0 e))
+    go true e = let h = shown-by s l e in absurd (n (bookOf s) (h .1) (h .0))
     go false e = rw e refl
 
 uses-one : (s : State) (x : ℕ) (p buffer : List ℕ) → takeOf s (x ∷ p) buffer .number ≢ 6 → takeOf s (x ∷ p) buffer .number ≢ 7 → 1 ≤ takeOf s (x ∷ p) buffer .used
@@ -157,8 +156,8 @@ close-refuses s buffer g e = rw (e, g) refl
 pub demand-1 : Demand1
 demand-1 =
     record {
-      takeRefuses = λ s p buffer t n e. take-refuses s p buffer (not-good s t n) e;
-      closeRefuses = λ s buffer t n e. close-refuses s buffer (not-good s t n) e;
+      takeRefuses = λ s p buffer l n e. take-refuses s p buffer (not-good s l n) e;
+      closeRefuses = λ s buffer l n e. close-refuses s buffer (not-good s l n) e;
       take = take-book;
       close = close-book;
       never7 = book-never-7;

@@ -45,6 +45,9 @@ view-good m = refl
 pub answer-apart : (v w : View) (f : List ℕ) → showsMemory f ≡ false → answerWith v f ≡ answerWith w f
 answer-apart v w f e = refl
 
+pub none-shows : (f : List ℕ) → showsMemory f ≡ false
+none-shows f = refl
+
 -- with no bytes in the book the state is the fresh one
 pub fresh-with : (m : Memory) → stateWith emptyFrame (viewOf m) ≡ freshState
 fresh-with m = refl

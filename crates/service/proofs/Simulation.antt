@@ -12,7 +12,8 @@ use Rattle.service.specs.Memory.{Memory, View, startMemory, viewOf, stat
 use Rattle.partial_frame.specs.declared.PartialFrame.{PartialFrame}
 use Rattle.service.proofs.Memory.{answer-alike, remembered-alike, view-recalled, view-good}
 use Rattle.service.specs.Book.{Book, emptyBook, stateOf, Call, Take, Close, Entry, Moved, Reply, move, oneMore, settled, answeredBy, closedWith, bookCall, replyOf, bufferOf, bookReplies, isSmall}
-use Rattle.service.specs.Service.{freshState, isGood, bookOf, takeOf, closeOf, serviceCall, serviceRun}
+use Rattle.service.specs.Service.{freshState, isGood, bookOf, takeOf, closeOf, serviceCall, serviceRun, stateAfter}
+use Rattle.service.specs.Demands.{bookAfter, replyAfter}
 use Rattle.partial_frame.specs.Steps.{afterByte, wholeIn}
 use Rattle.service.specs.declared.State.{State}
 use Rattle.partial_frame.proofs.Held.{byte-held, whole-held, not-past, empty-held}
@@ -159,3 +160,19 @@ run-book (c ∷ cs) h n =
 
 pub fresh-whole : stateOf emptyBook ≡ freshState
 fresh-whole = ap (λ (p : PartialFrame). stateWith p (viewOf startMemory)) empty-held
+
+-- ---- after a list of calls
+
+pub after-unfinished : (cs : List Call) (b : Book) → whole (b .held) ≡ false → whole (bookAfter b cs .held) ≡ false
+after-unfinished [] b n = n
+after-unfinished (c ∷ cs) b n = after-unfinished cs (bookCall b c .book) (held-short c b n)
+
+after-state : (cs : List Call) (b : Book) → whole (b .held) ≡ false → stateAfter (stateOf b) cs ≡ stateOf (bookAfter b cs)
+after-state [] b n = refl
+after-state (c ∷ cs) b n = ap (λ (r : Reply). stateAfter (r .state) cs) (call-book c b n) ∙ after-state cs (bookCall b c .book) (held-short c b n)
+
+pub after-fresh : (cs : List Call) → stateAfter freshState cs ≡ stateOf (bookAfter emptyBook cs)
+after-fresh cs = ap (λ (s : State). stateAfter s cs) (sym fresh-whole) ∙ after-state cs emptyBook whole-none
+
+pub reply-after : (cs : List Call) (c : Call) → replyAfter cs c ≡ replyOf (bookCall (bookAfter emptyBook cs) c) (bufferOf c)
+reply-after cs c = ap (λ (s : State). serviceCall s c) (after-fresh cs) ∙ call-book c (bookAfter emptyBook cs) (after-unfinished cs emptyBook whole-none)

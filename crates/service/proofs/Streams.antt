@@ -2,22 +2,21 @@
 use Prim.Native.Nat.{ℕ}
 use mathlib.Core.Path.{_≡_, refl, sym, ap, ap₂, _∙_}
 use mathlib.Core.Logic.{_≢_}
-use mathlib.Core.List.{List, [], _∷_, _++_, map}
+use mathlib.Core.List.{List, [], _∷_, _++_, map, append-nil}
 use mathlib.Core.Bool.{Bool, true, false, cond}
 use lib.ListN.{length, take}
 use lib.Seq.{take-append-seam}
 use Rattle.frames.specs.Frame.{whole, refusalFrame}
-use Rattle.partial_frame.specs.State.{frameOf}
 use Rattle.service.specs.Memory.{Memory, viewOf, stateWith, answerWith, remembered}
 use Rattle.service.proofs.Memory.{answer-some, answer-apart, fresh-with}
 use native.Mathlib.Omega.{arith}
 use Rattle.partial_frame.specs.declared.PartialFrame.{PartialFrame}
-use Rattle.service.specs.Book.{Book, stateOf, emptied, Call, Take, Close, Moved, Reply, move, answered, closedWith, bookCall, replyOf, bufferOf, bookReplies, isSmall}
+use Rattle.service.specs.Book.{Book, stateOf, emptied, Call, Take, Close, Moved, move, answered, closedWith, bookCall, replyOf, bufferOf, bookReplies, isSmall}
 use Rattle.service.specs.Stream.{Item, byte, movedBy, joinedFrom, Point, frame, closed, Parts, onePoint, partedFrom, answersFrom, writtenBy, written}
-use Rattle.service.specs.Service.{freshState, stateAfter}
-use Rattle.service.specs.Demands.{Ended, FreshAfter, Alike, SameAnswers}
+use Rattle.service.specs.Service.{freshState}
+use Rattle.service.specs.Demands.{bookAfter, Alike, SameAnswers}
 use Rattle.partial_frame.proofs.Held.{empty-held}
-use Rattle.service.proofs.Simulation.{held-short, call-book, move-whole, move-on}
+use Rattle.service.proofs.Simulation.{held-short, move-whole, move-on}
 
 -- what comes after the movedBy bytes is parted from where the book then stands
 abbrev after : Moved → List Item → Parts
@@ -117,18 +116,33 @@ written-points (c ∷ cs) h n =
 emptied-fresh : (m : Memory) → stateOf (emptied m) ≡ freshState
 emptied-fresh m = ap (λ (s : PartialFrame). stateWith s (viewOf m)) empty-held ∙ fresh-with m
 
-fresh-call : (c : Call) (h : Book) → Ended c (replyOf (bookCall h c) (bufferOf c)) → stateOf (bookCall h c .book) ≡ freshState
+fresh-call : (c : Call) (h : Book) → pointsBy h c ≢ [] → stateOf (bookCall h c .book) ≡ freshState
 fresh-call (Take p buffer) h = go (isSmall buffer) (whole (move (h .held) p .held)) refl refl
   where
-    go : (s t : Bool) → isSmall buffer ≡ s → whole (move (h .held) p .held) ≡ t → length (bookCall h (Take p buffer) .answer) ≢ 0 → stateOf (bookCall h (Take p buffer) .book) ≡ freshState
+    go : (s t : Bool) → isSmall buffer ≡ s → whole (move (h .held) p .held) ≡ t → pointsBy h (Take p buffer) ≢ [] → stateOf (bookCall h (Take p buffer) .book) ≡ freshState
     go true t e f = rw e (λ z. absurd (z refl))
     go false true e f = rw (e, f) (λ z. emptied-fresh (answered (move (h .held) p) (h .memory) .book .memory))
     go false false e f = rw (e, f) (λ z. absurd (z refl))
-fresh-call (Close buffer) h = λ e. rw e (ap stateOf (close-held (h .held) (h .memory)) ∙ emptied-fresh (h .memory))
+fresh-call (Close buffer) h = go (isSmall buffer) refl
+  where
+    go : (t : Bool) → isSmall buffer ≡ t → pointsBy h (Close buffer) ≢ [] → stateOf (bookCall h (Close buffer) .book) ≡ freshState
+    go true e = rw e (λ z. absurd (z refl))
+    go false e = rw e (λ z. ap stateOf (close-held (h .held) (h .memory)) ∙ emptied-fresh (h .memory))
 
-pub fresh-after : (cs : List Call) (h : Book) → FreshAfter cs (bookReplies h cs)
-fresh-after [] h = FreshAfter.none
-fresh-after (c ∷ cs) h = FreshAfter.call (fresh-call c h) (fresh-after cs (bookCall h c .book))
+abbrev pointsFrom : Book → List Call → List Point
+pointsFrom h cs = partedFrom (h .held) (joinedFrom h cs) .points
+
+points-cons : (c : Call) (cs : List Call) (h : Book) → whole (h .held) ≡ false → pointsFrom h (c ∷ cs) ≡ pointsBy h c ++ pointsFrom (bookCall h c .book) cs
+points-cons c cs h n = ap (λ (q : Parts). q .points) (part-call c h (joinedFrom (bookCall h c .book) cs) n)
+
+-- a call that adds a point leaves a book that holds no byte
+pub fresh-after : (cs : List Call) (c : Call) (h : Book) → whole (h .held) ≡ false → pointsFrom h (cs ++ (c ∷ [])) ≢ pointsFrom h cs
+    → stateOf (bookCall (bookAfter h cs) c .book) ≡ freshState
+fresh-after [] c h n z = fresh-call c h (λ e. z (points-cons c [] h n ∙ append-nil (pointsBy h c) ∙ e))
+fresh-after (d ∷ cs) c h n z =
+    let b = bookCall h d .book in
+    fresh-after cs c b (held-short d h n)
+    (λ e. z (points-cons d (cs ++ (c ∷ [])) h n ∙ ap (λ (ps : List Point). pointsBy h d ++ ps) e ∙ sym (points-cons d cs h n)))
 
 same-closings : {ps qs : List Point} (h k : List ℕ) (c d : Memory) → length h ≡ length k → SameAnswers ps qs (answersFrom c ps) (answersFrom d qs)
     → SameAnswers (closed h ∷ ps) (closed k ∷ qs) (answersFrom c (closed h ∷ ps)) (answersFrom d (closed k ∷ qs))
@@ -146,9 +160,9 @@ same-answers c d (Alike.frames {f} {g} t r) =
     (same-answers (remembered f (answerWith (viewOf c) f) c) (remembered g (answerWith (viewOf d) g) d) r)
 same-answers c d (Alike.closings {h} {k} l t r) = same-closings h k c d l (same-answers c d r)
 
-pub state-after : (cs : List Call) (h : Book) → whole (h .held) ≡ false → stateAfter (stateOf h) cs .frame ≡ frameOf (partedFrom (h .held) (joinedFrom h cs) .rest)
-state-after [] h n = refl
-state-after (c ∷ cs) h n =
-    ap (λ (r : Reply). stateAfter (r .state) cs .frame) (call-book c h n)
-    ∙ state-after cs (bookCall h c .book) (held-short c h n)
-    ∙ sym (ap (λ (q : Parts). frameOf (q .rest)) (part-call c h (joinedFrom (bookCall h c .book) cs) n))
+-- the book holds the unfinished end
+pub held-rest : (cs : List Call) (h : Book) → whole (h .held) ≡ false → bookAfter h cs .held ≡ partedFrom (h .held) (joinedFrom h cs) .rest
+held-rest [] h n = refl
+held-rest (c ∷ cs) h n =
+    held-rest cs (bookCall h c .book) (held-short c h n)
+    ∙ sym (ap (λ (q : Parts). q .rest) (part-call c h (joinedFrom (bookCall h c .book) cs) n))

@@ -1,16 +1,16 @@
 -- Demands 1 and 3, each as one statement. proofs/Demands.antt proves them. Definitions only.
-use Prim.Native.Nat.{ℕ, _≤_}
+use Prim.Native.Nat.{ℕ, zero, suc, _+_, _*_, _≤_}
 use mathlib.Core.Path.{_≡_}
 use mathlib.Core.Logic.{_≢_}
 use mathlib.Core.List.{List, [], _∷_, _++_, map}
-use mathlib.Core.Bool.{true, false}
+use mathlib.Core.Bool.{false}
 use lib.ListN.{length, take, drop}
 use Rattle.frames.specs.Frame.{longestBody, whole}
-use Rattle.partial_frame.specs.State.{frameOf, Left}
-use Rattle.service.specs.Memory.{showsMemory, viewIn, isView}
+use Rattle.partial_frame.specs.State.{frameOf}
+use Rattle.service.specs.Memory.{showsMemory}
 use Rattle.service.specs.Book.{Book, emptyBook, stateOf, Call, Take, Close, Reply, bookReplies, bookCall, bookTake, replyOf, isSmall}
-use Rattle.service.specs.Service.{freshState, untouched, takeOf, closeOf, serviceRun, stateAfter}
-use Rattle.service.specs.Stream.{Parts, Partition, Point, frame, closed, byte, joined, parted, pointsOf, answersFrom, written}
+use Rattle.service.specs.Service.{freshState, untouched, takeOf, closeOf, serviceCall, serviceRun, stateAfter}
+use Rattle.service.specs.Stream.{Parts, Partition, Point, frame, closed, Item, byte, closing, joined, parted, pointsOf, answersFrom, written}
 use Rattle.service.specs.declared.State.{State}
 
 -- ---- lists of calls
@@ -19,22 +19,13 @@ use Rattle.service.specs.declared.State.{State}
 abbrev pub run : List Call → List Reply
 run cs = serviceRun freshState cs
 
+-- the reply to the call that comes after such a list
+abbrev pub replyAfter : List Call → Call → Reply
+replyAfter cs c = serviceCall (stateAfter freshState cs) c
+
 abbrev pub bookAfter : Book → List Call → Book
 bookAfter b [] = b
 bookAfter b (c ∷ cs) = bookAfter (bookCall b c .book) cs
-
-abbrev pub Never7 : List Reply → Type 0
-Never7 [] = Unit {0}
-Never7 (r ∷ rs) = (r .number ≢ 7) × Never7 rs
-
--- a take that answered a whole frame, or a close that 6 did not refuse
-abbrev pub Ended : Call → Reply → Type 0
-Ended (Take piece buffer) r = r .len ≢ 0
-Ended (Close buffer) r = isSmall buffer ≡ false
-
-pub data FreshAfter : List Call → List Reply → Type 0 where
-  none : FreshAfter [] []
-  call : {c : Call} {r : Reply} {cs : List Call} {rs : List Reply} → (Ended c r → r .state ≡ freshState) → FreshAfter cs rs → FreshAfter (c ∷ cs) (r ∷ rs)
 
 -- a piece handed on: take is repeated on its unused end until nothing is left, each time with another buffer
 abbrev pub handedOn : Book → List ℕ → List (List ℕ) → List Call
@@ -49,19 +40,43 @@ AllLarge (buffer ∷ buffers) = (isSmall buffer ≡ false) × AllLarge buffers
 
 -- ---- two lists
 
+-- where a byte stands: it is the first length byte of a frame, or the second behind the first, or inside a body of which so many more come
+pub data Place : Type 0 where
+  first : Place
+  second : ℕ → Place
+  inside : ℕ → Place
+
+-- the place of the byte after a length, or after a body's byte, where n bytes of the body are to come
+abbrev pub toCome : ℕ → Place
+toCome zero = first
+toCome (suc n) = inside n
+
+-- the length bytes and the closing points: each byte inside a body is blanked
+abbrev pub blankedFrom : List Item → Place → List Item
+blankedFrom [] p = []
+blankedFrom (closing ∷ is) p = closing ∷ blankedFrom is first
+blankedFrom (byte b ∷ is) first = byte b ∷ blankedFrom is (second b)
+blankedFrom (byte b ∷ is) (second a) = byte b ∷ blankedFrom is (toCome (a * 256 + b))
+blankedFrom (byte b ∷ is) (inside n) = byte 0 ∷ blankedFrom is (toCome n)
+
+abbrev pub blanked : List Item → List Item
+blanked is = blankedFrom is first
+
 -- the same frame lengths and closing points: frames and unfinished frames differ only behind their length bytes
 pub data Alike : List Point → List Point → Type 0 where
   none : Alike [] []
   frames : {f g : List ℕ} {ps qs : List Point} → take 2 f ≡ take 2 g → Alike ps qs → Alike (frame f ∷ ps) (frame g ∷ qs)
   closings : {h k : List ℕ} {ps qs : List Point} → length h ≡ length k → take 2 h ≡ take 2 k → Alike ps qs → Alike (closed h ∷ ps) (closed k ∷ qs)
 
--- each frame that is the same in both, and each closing point, has the same answer in both; a close on nothing has none
+-- each frame that is the same in both, and each closing point after an unfinished frame, has the same answer in both; a close on nothing
+-- has none
 pub data SameAnswers : List Point → List Point → List (List ℕ) → List (List ℕ) → Type 0 where
   none : SameAnswers [] [] [] []
   frames : {f g a b : List ℕ} {ps qs : List Point} {xs ys : List (List ℕ)}
       → (f ≡ g → showsMemory f ≡ false → a ≡ b) → SameAnswers ps qs xs ys → SameAnswers (frame f ∷ ps) (frame g ∷ qs) (a ∷ xs) (b ∷ ys)
   silent : {ps qs : List Point} {xs ys : List (List ℕ)} → SameAnswers ps qs xs ys → SameAnswers (closed [] ∷ ps) (closed [] ∷ qs) xs ys
-  closings : {h k a : List ℕ} {ps qs : List Point} {xs ys : List (List ℕ)} → SameAnswers ps qs xs ys → SameAnswers (closed h ∷ ps) (closed k ∷ qs) (a ∷ xs) (a ∷ ys)
+  closings : {b c : ℕ} {h k a : List ℕ} {ps qs : List Point} {xs ys : List (List ℕ)}
+      → SameAnswers ps qs xs ys → SameAnswers (closed (b ∷ h) ∷ ps) (closed (c ∷ k) ∷ qs) (a ∷ xs) (a ∷ ys)
 
 -- ---- the statements
 
@@ -69,31 +84,35 @@ pub data SameAnswers : List Point → List Point → List (List ℕ) → List (L
 pub record Demand3 : Type 0 where
   -- every used count, answer length, number, returned state and answer buffer is the plain book's
   pub book : (cs : List Call) → run cs ≡ bookReplies emptyBook cs
-  pub never7 : (cs : List Call) → Never7 (run cs)
+  pub never7 : (cs : List Call) (c : Call) → replyAfter cs c .number ≢ 7
   -- the joined bytes part into frames in one way
   pub partition : (cs : List Call) → Partition (joined cs) (parted (joined cs))
   pub onlyPartition : (cs : List Call) (q : Parts) → Partition (joined cs) q → q ≡ parted (joined cs)
   -- the answers are, in order, those of the frames and closing points of the joined bytes
   pub answers : (cs : List Call) → written (run cs) ≡ answersFrom (emptyBook .memory) (pointsOf cs)
-  -- the service is fresh after each whole frame and each close that 6 does not refuse; after every list it holds the unfinished end
-  pub fresh : (cs : List Call) → FreshAfter cs (run cs)
+  -- a call that brings a frame to its end, or closes, leaves the service fresh; after every list it holds the unfinished end
+  pub fresh : (cs : List Call) (c : Call) → pointsOf (cs ++ (c ∷ [])) ≢ pointsOf cs → replyAfter cs c .state ≡ freshState
   pub held : (cs : List Call) → stateAfter freshState cs .frame ≡ frameOf (parted (joined cs) .rest)
   -- what differs inside the bodies of some frames changes no other answer
   pub isolated : (cs ds : List Call) → Alike (pointsOf cs) (pointsOf ds) → SameAnswers (pointsOf cs) (pointsOf ds) (written (run cs)) (written (run ds))
+  -- so it is wherever the joined bytes have the same length bytes and closing points, and no frame's answer is left out of it
+  pub alike : (cs ds : List Call) → blanked (joined cs) ≡ blanked (joined ds) → Alike (pointsOf cs) (pointsOf ds)
+  pub noneShows : (f : List ℕ) → showsMemory f ≡ false
   -- a piece that is handed on with buffers that are large enough has all its bytes moved, after every list
   pub handed : (cs : List Call) (piece : List ℕ) (buffers : List (List ℕ)) → AllLarge buffers → length piece ≤ length buffers
       → joined (cs ++ handedOn (bookAfter emptyBook cs) piece buffers) ≡ joined cs ++ map byte piece
 
--- the state's array has its places, and what lasts is shown as some book shows it
-pub record Typed (s : State) : Type 0 where
-  pub places : length (s .frame .body) ≡ longestBody
-  pub view : isView (viewIn s) ≡ true
+-- no run of bytes shorter than a whole frame leaves it
+abbrev pub Unreached : State → Type 0
+Unreached s = (b : Book) → whole (b .held) ≡ false → s ≢ stateOf b
 
--- Demand 1 for every state, piece and buffer; refusal 6 is tried first in takeOf and closeOf.
+-- Demand 1 for every state, piece and buffer; refusal 6 is tried first in takeOf and closeOf. A state's array has its length, as its type says.
 pub record Demand1 : Type 0 where
   -- 7 for a state that no run of bytes shorter than a whole frame leaves, and nothing is touched
-  pub takeRefuses : (s : State) (piece buffer : List ℕ) → Typed s → (Left (s .frame) → ⊥) → isSmall buffer ≡ false → takeOf s piece buffer ≡ untouched 7 s buffer
-  pub closeRefuses : (s : State) (buffer : List ℕ) → Typed s → (Left (s .frame) → ⊥) → isSmall buffer ≡ false → closeOf s buffer ≡ untouched 7 s buffer
+  pub takeRefuses : (s : State) (piece buffer : List ℕ) → length (s .frame .body) ≡ longestBody → Unreached s → isSmall buffer ≡ false
+      → takeOf s piece buffer ≡ untouched 7 s buffer
+  pub closeRefuses : (s : State) (buffer : List ℕ) → length (s .frame .body) ≡ longestBody → Unreached s → isSmall buffer ≡ false
+      → closeOf s buffer ≡ untouched 7 s buffer
   -- for every other, and every run of bytes that leaves it, the reply is the book's for that run
   pub take : (b : Book) (piece buffer : List ℕ) → whole (b .held) ≡ false → takeOf (stateOf b) piece buffer ≡ replyOf (bookCall b (Take piece buffer)) buffer
   pub close : (b : Book) (buffer : List ℕ) → whole (b .held) ≡ false → closeOf (stateOf b) buffer ≡ replyOf (bookCall b (Close buffer)) buffer
