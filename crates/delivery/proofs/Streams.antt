@@ -13,7 +13,7 @@ use Rattle.service.specs.Book.{Book, emptyBook, Call, Close, Reply, stateOf, bo
 use Rattle.service.specs.Stream.{Item, byte, closing, joined, joinedFrom, parted, answersFrom, written}
 use Rattle.service.specs.Demands.{bookAfter, handedOn}
 use Rattle.service.specs.declared.State.{State}
-use Rattle.service.proofs.Simulation.{close-book, fresh-whole, whole-none}
+use Rattle.service.proofs.Simulation.{close-book, fresh-whole, whole-none, after-unfinished, after-fresh}
 use Rattle.service.proofs.Streams.{written-points}
 use Rattle.service.proofs.Demands.{demand-3, map-append, joined-append}
 use Rattle.delivery.specs.Delivery.{Given, deliveryOf, given, handOn}
@@ -21,7 +21,7 @@ use Rattle.delivery.specs.Streams.{front, Handed, behind, handed, handed
 use Rattle.delivery.proofs.Promises.{Reached, takes-reached, delivery-uses}
 use Rattle.delivery.proofs.Room.{takes-most}
 use Rattle.delivery.proofs.Alike.{front-answer, hand-on-book}
-use Rattle.delivery.proofs.Calls.{after-unfinished, after-fresh, after-append, answersTo, answers-append, answers-cons, Calls, no-calls, more-calls, takes-calls, takes-stop}
+use Rattle.delivery.proofs.Calls.{after-append, answersTo, answers-append, answers-cons, Calls, no-calls, more-calls, takes-calls, takes-stop}
 
 -- ---- hand_on, once and repeated, from the state of a book
 

@@ -6,3 +6,4 @@ pub mod Streams
 pub mod Isolation
 pub mod Calls
 pub mod Demands
+pub mod Examples
