@@ -95,8 +95,9 @@ pub record Demand3 : Type 0 where
   pub held : (cs : List Call) → stateAfter freshState cs .frame ≡ frameOf (parted (joined cs) .rest)
   -- what differs inside the bodies of some frames changes no other answer
   pub isolated : (cs ds : List Call) → Alike (pointsOf cs) (pointsOf ds) → SameAnswers (pointsOf cs) (pointsOf ds) (written (run cs)) (written (run ds))
-  -- so it is wherever the joined bytes have the same length bytes and closing points, and no frame's answer is left out of it
+  -- two lists are alike where their joined bytes are the same but for bytes inside bodies
   pub alike : (cs ds : List Call) → blanked (joined cs) ≡ blanked (joined ds) → Alike (pointsOf cs) (pointsOf ds)
+  -- and every frame that is the same in both is one of the others: no answer shows what lasts
   pub noneShows : (f : List ℕ) → showsMemory f ≡ false
   -- a piece that is handed on with buffers that are large enough has all its bytes moved, after every list
   pub handed : (cs : List Call) (piece : List ℕ) (buffers : List (List ℕ)) → AllLarge buffers → length piece ≤ length buffers
