@@ -18,6 +18,7 @@ const SMALL_BUFFER: u8 = 6;
 const BAD_STATE: u8 = 7;
 
 // The state, the bytes of the piece that were used, the bytes of answers at the buffer's front, and refusal 6, 7 or 0.
+#[repr(C)]
 pub struct HandedOn {
     pub state: State,
     pub used: usize,

@@ -13,6 +13,7 @@ use frames::LONGEST_BODY;
 
 // The present frame: how many of its bytes have come, its length bytes, and its body so far. Places not yet filled hold 0, and a body
 // that is not kept fills none.
+#[repr(C)]
 pub struct PartialFrame {
     pub count: usize,
     pub hi: u8,

@@ -24,11 +24,13 @@ const BAD_STATE: u8 = 7;
 const UNFINISHED: u8 = 8;
 
 // All that the service knows between calls. Any value may be handed over.
+#[repr(C)]
 pub struct State {
     pub frame: PartialFrame,
 }
 
 // What take returns; the refusal is a number or 0.
+#[repr(C)]
 pub struct Taken {
     pub state: State,
     pub used: usize,
@@ -37,6 +39,7 @@ pub struct Taken {
 }
 
 // What close returns.
+#[repr(C)]
 pub struct Closed {
     pub state: State,
     pub len: usize,
