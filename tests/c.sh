@@ -1,29 +1,57 @@
 #!/bin/sh
-# Compiles the C examples with include/weigher.h and target/staticlib/libcapi.a, runs them and compares what they write; calls.c as C++ too.
-# Run in the repository's root, after `make archive`.
+# Compiles the C examples and tests/c/service.c with include/weigher.h and target/staticlib/libcapi.a, by the C and C++ compilers that are
+# there and with their sanitizers, runs them, and compares what the examples write. Run in the repository's root, after `make archive`.
 set -eu
 work=target/c_examples
 mkdir -p "$work"
 
-# check NAME COMPILER [FLAG...]
-check() {
+# build FILE COMPILER [FLAG...]
+build() {
+    file=$1
+    shift
+    "$@" -pedantic -Wall -Wextra -Werror -I include -o "$work/program" "$file" -x none target/staticlib/libcapi.a
+}
+
+# example NAME COMPILER [FLAG...]
+example() {
     name=$1
     shift
-    "$@" -pedantic -Wall -Wextra -Werror -O2 -I include -o "$work/$name" "examples/c/$name.c" -x none target/staticlib/libcapi.a
-    "$work/$name" > "$work/$name.stdout"
+    build "examples/c/$name.c" "$@"
+    "$work/program" > "$work/$name.stdout"
     diff -u "examples/$name.stdout" "$work/$name.stdout"
 }
 
-if command -v cc > /dev/null; then
-    check calls cc -std=c11
-    check rank cc -std=c11
-    echo "examples/c: calls and rank write what examples/calls.stdout and examples/rank.stdout have"
-else
-    echo "cc is not installed: the C examples are not run"
-fi
+# try COMPILER [FLAG...]: what is C and C++ alike
+try() {
+    build tests/c/service.c "$@"
+    "$work/program"
+    example calls "$@"
+    example embed "$@"
+    echo "$*: calls and embed of examples/c write what they should, and tests/c/service.c finds nothing wrong"
+}
+
+# try_sanitized COMPILER [FLAG...], where its sanitizers are there
+try_sanitized() {
+    sanitizers=-fsanitize=address,undefined
+    if echo 'int main(void) { return 0; }' | "$@" $sanitizers -o "$work/program" -x c - 2> /dev/null; then
+        try "$@" $sanitizers -fno-sanitize-recover=all
+    else
+        echo "$1 has no sanitizers: it is tried without them alone"
+    fi
+}
+
+tried=
+for compiler in cc clang; do
+    if command -v "$compiler" > /dev/null; then
+        example rank "$compiler" -std=c11 -O2
+        try "$compiler" -std=c11 -O2
+        try_sanitized "$compiler" -std=c11
+        tried=yes
+    fi
+done
+[ -n "$tried" ] || echo "no C compiler is installed: the C examples are not run"
 if command -v c++ > /dev/null; then
-    check calls c++ -std=c++11 -x c++
-    echo "examples/c: calls does so as C++ too"
+    try c++ -std=c++11 -O2 -x c++
 else
     echo "c++ is not installed: include/weigher.h is not compiled as C++"
 fi

@@ -6,7 +6,7 @@
 
 #define SHOW(call) printf("%s = 0x%016" PRIx64 "\n", #call, call)
 
-int main(void)
+static void numeric(void)
 {
     SHOW(weigher_score(0xc04b000000000000)); /* -54 */
     SHOW(weigher_score(0x3970000000000000)); /* 2^-104 */
@@ -24,5 +24,77 @@ int main(void)
     SHOW(weigher_scale(0x3ff8000000000000, 4));         /* 1.5 */
     SHOW(weigher_scale(0x3ff8000000000000, -1074));     /* a tie between 1 and 2 times 2^-1074 */
     SHOW(weigher_scale(0xbff8000000000000, INT32_MAX)); /* -1.5, far beyond the finite ones */
+}
+
+static void show_answer(const char *call, size_t used, size_t len, unsigned refusal, const uint8_t *answer)
+{
+    printf("%s: used %zu, refusal %u, answer of %zu", call, used, refusal, len);
+    for (size_t i = 0; i < len; i++)
+        printf("%s%02x", i == 0 ? ": " : " ", answer[i]);
+    printf("\n");
+}
+
+/* The whole case of document 01: the weight -54, a body of no bytes, and half of a length. */
+static const uint8_t stream[] = {0x00, 0x0a, 0x01, 0x01, 0xc0, 0x4b, 0x00, 0x00, 0x00, 0x00, 0x00, 0x00, 0x00, 0x00, 0x00};
+
+static void frame_by_frame(void)
+{
+    uint8_t answer[WEIGHER_ANSWER_ROOM];
+    weigher_state state = weigher_fresh();
+    size_t at = 0;
+    while (at < sizeof stream) {
+        weigher_taken taken = weigher_take(state, stream + at, sizeof stream - at, answer, sizeof answer);
+        show_answer("weigher_take", taken.used, taken.len, taken.refusal, answer);
+        state = taken.state;
+        at += taken.used;
+    }
+    weigher_closed closed = weigher_close(state, answer, sizeof answer);
+    show_answer("weigher_close", 0, closed.len, closed.refusal, answer);
+}
+
+static void whole_piece(void)
+{
+    uint8_t answers[2 * sizeof stream + 2 * WEIGHER_ANSWER_ROOM];
+    weigher_handed_on handed = weigher_hand_on(weigher_fresh(), stream, sizeof stream, answers, sizeof answers);
+    show_answer("weigher_hand_on", handed.used, handed.len, handed.refusal, answers);
+}
+
+static void refused_calls(void)
+{
+    uint8_t answer[WEIGHER_ANSWER_ROOM];
+    weigher_taken taken = weigher_take(weigher_fresh(), stream, sizeof stream, answer, sizeof answer - 1);
+    show_answer("weigher_take with a small buffer", taken.used, taken.len, taken.refusal, answer);
+
+    weigher_state state = weigher_fresh();
+    state.frame.body[0] = 1; /* a byte of a body, although no length has come */
+    weigher_closed closed = weigher_close(state, answer, sizeof answer);
+    show_answer("weigher_close of a bad state", 0, closed.len, closed.refusal, answer);
+}
+
+static void show_screened(size_t weights, weigher_screened screened)
+{
+    static const char *const tags[] = {"refused", "clean", "missing"};
+    printf("weigher_screening of %zu weights: %s, number %zu\n", weights, tags[screened.tag], screened.number);
+}
+
+static void payloads(void)
+{
+    /* A body with the weights 2, infinity and a NaN. */
+    static const uint8_t body[] = {0x01, 0x01, 0x40, 0x00, 0x00, 0x00, 0x00, 0x00, 0x00, 0x00, 0x7f, 0xf0, 0x00,
+                                   0x00, 0x00, 0x00, 0x00, 0x00, 0xff, 0xf0, 0x00, 0x00, 0x00, 0x00, 0x00, 0x01};
+    size_t start = weigher_payload(body, sizeof body);
+    printf("weigher_payload of %zu bytes: from %zu on\n", sizeof body, start);
+    printf("weigher_payload of 1 byte: from %zu on\n", weigher_payload(body, 1));
+    for (size_t weights = 0; weights <= 3; weights++)
+        show_screened(weights, weigher_screening(body + start, 8 * weights));
+}
+
+int main(void)
+{
+    numeric();
+    frame_by_frame();
+    whole_piece();
+    refused_calls();
+    payloads();
     return 0;
 }

@@ -1,0 +1,201 @@
+/* The service's calls across the C interface: the layout of its structs, every byte of a state passed and returned, refused calls, buffers
+ * that end where memory does, and NULL for what is empty. Says which check failed, and then ends with status 1. */
+#define _DEFAULT_SOURCE
+#include <stddef.h>
+#include <stdint.h>
+#include <stdio.h>
+#include <stdlib.h>
+#include <string.h>
+#include <sys/mman.h>
+#include <unistd.h>
+
+#include "weigher.h"
+
+#ifdef __cplusplus
+#define LAYOUT(fact) static_assert(fact, #fact)
+#else
+#define LAYOUT(fact) _Static_assert(fact, #fact)
+#endif
+
+LAYOUT(sizeof(weigher_frame) == 528);
+LAYOUT(offsetof(weigher_frame, count) == 0);
+LAYOUT(offsetof(weigher_frame, hi) == 8);
+LAYOUT(offsetof(weigher_frame, lo) == 9);
+LAYOUT(offsetof(weigher_frame, body) == 10);
+LAYOUT(sizeof(weigher_state) == 528);
+LAYOUT(sizeof(weigher_taken) == 552);
+LAYOUT(offsetof(weigher_taken, used) == 528);
+LAYOUT(offsetof(weigher_taken, len) == 536);
+LAYOUT(offsetof(weigher_taken, refusal) == 544);
+LAYOUT(sizeof(weigher_closed) == 544);
+LAYOUT(offsetof(weigher_closed, len) == 528);
+LAYOUT(offsetof(weigher_closed, refusal) == 536);
+LAYOUT(sizeof(weigher_handed_on) == 552);
+LAYOUT(offsetof(weigher_handed_on, used) == 528);
+LAYOUT(offsetof(weigher_handed_on, len) == 536);
+LAYOUT(offsetof(weigher_handed_on, refusal) == 544);
+LAYOUT(sizeof(weigher_screened) == 16);
+LAYOUT(offsetof(weigher_screened, number) == 8);
+
+static void check_at(int line, int holds, const char *fact)
+{
+    if (!holds) {
+        printf("tests/c/service.c:%d: not so: %s\n", line, fact);
+        exit(1);
+    }
+}
+
+#define CHECK(fact) check_at(__LINE__, (fact) != 0, #fact)
+
+static int same(weigher_state a, weigher_state b)
+{
+    return a.frame.count == b.frame.count && a.frame.hi == b.frame.hi && a.frame.lo == b.frame.lo
+        && memcmp(a.frame.body, b.frame.body, sizeof a.frame.body) == 0;
+}
+
+/* n bytes of 0xee, with memory that is neither to be read nor written right behind them. */
+static uint8_t *before_end(size_t n)
+{
+    size_t page = (size_t)sysconf(_SC_PAGESIZE);
+    uint8_t *pages = (uint8_t *)mmap(NULL, 2 * page, PROT_READ | PROT_WRITE, MAP_PRIVATE | MAP_ANONYMOUS, -1, 0);
+    CHECK(pages != MAP_FAILED && n <= page && mprotect(pages + page, page, PROT_NONE) == 0);
+    memset(pages, 0xee, page);
+    return pages + page - n;
+}
+
+static int untouched(const uint8_t *bytes, size_t n)
+{
+    for (size_t i = 0; i < n; i++)
+        if (bytes[i] != 0xee)
+            return 0;
+    return 1;
+}
+
+static const uint8_t frame[] = {0x00, 0x0a, 0x01, 0x01, 0xc0, 0x4b, 0x00, 0x00, 0x00, 0x00, 0x00, 0x00};
+static const uint8_t scores[] = {0x00, 0x0a, 0x01, 0x00, 0xbf, 0xf0, 0x00, 0x00, 0x00, 0x00, 0x00, 0x00};
+static const uint8_t unfinished[] = {0x00, 0x02, 0x01, 0x08};
+
+/* A call that is refused hands the state back and leaves the buffer. */
+static void check_refused(weigher_state state, size_t room, unsigned number)
+{
+    uint8_t *buffer = before_end(room);
+    weigher_taken taken = weigher_take(state, frame, sizeof frame, buffer, room);
+    CHECK(taken.refusal == number && taken.used == 0 && taken.len == 0 && same(taken.state, state));
+    weigher_handed_on handed = weigher_hand_on(state, frame, sizeof frame, buffer, room);
+    CHECK(handed.refusal == number && handed.used == 0 && handed.len == 0 && same(handed.state, state));
+    weigher_closed closed = weigher_close(state, buffer, room);
+    CHECK(closed.refusal == number && closed.len == 0 && same(closed.state, state));
+    CHECK(untouched(buffer, room));
+}
+
+/* Bytes that differ show that each is passed and returned at its place. */
+static void check_refusals(void)
+{
+    weigher_state counted, ones;
+    counted.frame.count = 0x0123456789abcdef;
+    counted.frame.hi = 0xa5;
+    counted.frame.lo = 0x5a;
+    for (size_t i = 0; i < sizeof counted.frame.body; i++)
+        counted.frame.body[i] = (uint8_t)(i * 7 + 1);
+    memset(&ones, 0xff, sizeof ones);
+    check_refused(counted, WEIGHER_ANSWER_ROOM, WEIGHER_BAD_STATE);
+    check_refused(ones, WEIGHER_ANSWER_ROOM, WEIGHER_BAD_STATE);
+    check_refused(counted, WEIGHER_ANSWER_ROOM - 1, WEIGHER_SMALL_BUFFER);
+    check_refused(ones, 0, WEIGHER_SMALL_BUFFER);
+    check_refused(weigher_fresh(), WEIGHER_ANSWER_ROOM - 1, WEIGHER_SMALL_BUFFER);
+}
+
+static void check_fresh(void)
+{
+    weigher_state zeros;
+    memset(&zeros, 0, sizeof zeros);
+    CHECK(same(weigher_fresh(), zeros));
+}
+
+/* The frame, cut at a place, and closed there. */
+static void check_cut(size_t cut)
+{
+    uint8_t *piece = before_end(sizeof frame), *buffer = before_end(WEIGHER_ANSWER_ROOM);
+    memcpy(piece, frame, sizeof frame);
+    weigher_taken taken = weigher_take(weigher_fresh(), piece, cut, buffer, WEIGHER_ANSWER_ROOM);
+    CHECK(taken.used == cut && taken.len == 0 && taken.refusal == 0);
+    CHECK(taken.state.frame.count == cut && untouched(buffer, WEIGHER_ANSWER_ROOM));
+    weigher_closed closed = weigher_close(taken.state, buffer, WEIGHER_ANSWER_ROOM);
+    CHECK(same(closed.state, weigher_fresh()) && untouched(buffer + closed.len, WEIGHER_ANSWER_ROOM - closed.len));
+    CHECK(cut == 0 ? closed.len == 0 && closed.refusal == 0 : closed.len == 4 && closed.refusal == WEIGHER_UNFINISHED);
+    CHECK(memcmp(buffer, unfinished, closed.len) == 0);
+    taken = weigher_take(taken.state, piece + cut, sizeof frame - cut, buffer, WEIGHER_ANSWER_ROOM);
+    CHECK(taken.used == sizeof frame - cut && taken.len == sizeof scores && taken.refusal == 0);
+    CHECK(same(taken.state, weigher_fresh()) && memcmp(buffer, scores, sizeof scores) == 0);
+    CHECK(untouched(buffer + sizeof scores, WEIGHER_ANSWER_ROOM - sizeof scores));
+}
+
+/* Three frames, with room for two answers and then some. */
+static void check_hand_on(void)
+{
+    size_t room = WEIGHER_ANSWER_ROOM + sizeof scores;
+    uint8_t *piece = before_end(3 * sizeof frame), *buffer = before_end(room);
+    for (size_t i = 0; i < 3; i++)
+        memcpy(piece + i * sizeof frame, frame, sizeof frame);
+    weigher_handed_on handed = weigher_hand_on(weigher_fresh(), piece, 3 * sizeof frame, buffer, room);
+    CHECK(handed.used == 2 * sizeof frame && handed.len == 2 * sizeof scores && handed.refusal == 0);
+    CHECK(memcmp(buffer, scores, sizeof scores) == 0 && memcmp(buffer + sizeof scores, scores, sizeof scores) == 0);
+    CHECK(same(handed.state, weigher_fresh()) && untouched(buffer + handed.len, room - handed.len));
+}
+
+static void check_null(void)
+{
+    uint8_t buffer[WEIGHER_ANSWER_ROOM];
+    CHECK(weigher_take(weigher_fresh(), NULL, 0, buffer, sizeof buffer).refusal == 0);
+    CHECK(weigher_take(weigher_fresh(), NULL, 0, NULL, 0).refusal == WEIGHER_SMALL_BUFFER);
+    CHECK(weigher_hand_on(weigher_fresh(), NULL, 0, buffer, sizeof buffer).refusal == 0);
+    CHECK(weigher_hand_on(weigher_fresh(), NULL, 0, NULL, 0).refusal == WEIGHER_SMALL_BUFFER);
+    CHECK(weigher_close(weigher_fresh(), NULL, 0).refusal == WEIGHER_SMALL_BUFFER);
+    CHECK(weigher_payload(NULL, 0) == 0);
+    CHECK(weigher_screening(NULL, 0).tag == WEIGHER_SCREENED_REFUSED);
+}
+
+static void check_payload(void)
+{
+    for (size_t n = 0; n <= sizeof frame; n++)
+        CHECK(weigher_payload(before_end(n), n) == (n < 2 ? n : 2));
+}
+
+static void check_screened(const uint8_t *payload, size_t n, unsigned tag, size_t number)
+{
+    weigher_screened screened = weigher_screening(payload, n);
+    CHECK(screened.tag == tag && screened.number == number);
+}
+
+/* 64 weights, of which one is a NaN, at each place. */
+static void check_screening(void)
+{
+    const size_t weights = 64;
+    uint8_t *payload = before_end(8 * weights);
+    memset(payload, 0, 8 * weights);
+    check_screened(payload, 8 * weights, WEIGHER_SCREENED_CLEAN, 0);
+    for (size_t n = 8 * weights - 7; n < 8 * weights; n++)
+        check_screened(payload, n, WEIGHER_SCREENED_REFUSED, WEIGHER_BAD_PAYLOAD);
+    for (size_t place = 0; place < weights; place++) {
+        uint8_t *weight = payload + 8 * place;
+        weight[0] = 0xff;
+        weight[1] = 0xf0;
+        check_screened(payload, 8 * weights, WEIGHER_SCREENED_CLEAN, 0); /* -infinity */
+        weight[7] = 0x01;
+        check_screened(payload, 8 * weights, WEIGHER_SCREENED_MISSING, place);
+        memset(weight, 0, 8);
+    }
+}
+
+int main(void)
+{
+    check_fresh();
+    check_refusals();
+    for (size_t cut = 0; cut < sizeof frame; cut++)
+        check_cut(cut);
+    check_hand_on();
+    check_null();
+    check_payload();
+    check_screening();
+    return 0;
+}
