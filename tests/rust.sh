@@ -1,5 +1,5 @@
 #!/bin/sh
-# Tests the crate in bindings/rust, and compares what its example rank writes. Run in the repository's root, after `make archive`.
+# Tests the crate in bindings/rust, and compares what its examples write. Run in the repository's root, after `make archive`.
 set -eu
 if ! command -v cargo > /dev/null; then
     echo "cargo is not installed: bindings/rust is not tested"
@@ -13,6 +13,8 @@ if ! cargo test --offline --locked --quiet > "$work/test.log" 2>&1; then
     cat "$work/test.log"
     exit 1
 fi
-cargo run --offline --locked --quiet --example rank > "$work/rank.stdout"
-diff -u ../../examples/rank.stdout "$work/rank.stdout"
-echo "bindings/rust: all tests pass, and rank writes what examples/rank.stdout has"
+for example in rank embed; do
+    cargo run --offline --locked --quiet --example "$example" > "$work/$example.stdout"
+    diff -u "../../examples/$example.stdout" "$work/$example.stdout"
+done
+echo "bindings/rust: all tests pass, and rank and embed write what examples/rank.stdout and examples/embed.stdout have"

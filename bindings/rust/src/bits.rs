@@ -1,16 +1,9 @@
-//! The functions on patterns: the bits of an `f64` as a `u64`.
+//! The numeric functions on patterns: the bits of an `f64` as a `u64`.
+
+use crate::ffi;
 
 /// The pattern of every NaN that a function returns.
 pub const NAN: u64 = 0x7ff8000000000000;
-
-// As include/weigher.h declares them. They take and return plain numbers and ask nothing of them, so that every call is safe.
-unsafe extern "C" {
-    safe fn weigher_fused(a: u64, b: u64, c: u64) -> u64;
-    safe fn weigher_round(x: u64) -> u64;
-    safe fn weigher_floor(x: u64) -> u64;
-    safe fn weigher_scale(x: u64, n: i32) -> u64;
-    safe fn weigher_score(x: u64) -> u64;
-}
 
 /// 2^x - 1, the score of the weight x.
 ///
@@ -20,7 +13,7 @@ unsafe extern "C" {
 /// assert_eq!(bits::score(0xfff0000000000001), bits::NAN);
 /// ```
 pub fn score(x: u64) -> u64 {
-    weigher_score(x)
+    ffi::weigher_score(x)
 }
 
 /// a × b + c, rounded once.
@@ -29,7 +22,7 @@ pub fn score(x: u64) -> u64 {
 /// assert_eq!(weigher::bits::fused(1, 0x3fe0000000000000, 1), 2); // 2^-1074 × 0.5 + 2^-1074
 /// ```
 pub fn fused(a: u64, b: u64, c: u64) -> u64 {
-    weigher_fused(a, b, c)
+    ffi::weigher_fused(a, b, c)
 }
 
 /// The nearest whole number, a tie to the even one. A zero result has the sign of x.
@@ -38,7 +31,7 @@ pub fn fused(a: u64, b: u64, c: u64) -> u64 {
 /// assert_eq!(weigher::bits::round(0xbfe0000000000000), 0x8000000000000000); // -0.5
 /// ```
 pub fn round(x: u64) -> u64 {
-    weigher_round(x)
+    ffi::weigher_round(x)
 }
 
 /// The greatest whole number not above x. The sign of a zero is kept.
@@ -47,7 +40,7 @@ pub fn round(x: u64) -> u64 {
 /// assert_eq!(weigher::bits::floor(0xbfe0000000000000), 0xbff0000000000000); // -0.5
 /// ```
 pub fn floor(x: u64) -> u64 {
-    weigher_floor(x)
+    ffi::weigher_floor(x)
 }
 
 /// x × 2^n, rounded once. A zero or infinite result has the sign of x.
@@ -56,5 +49,5 @@ pub fn floor(x: u64) -> u64 {
 /// assert_eq!(weigher::bits::scale(0x3ff8000000000000, -1074), 2); // 1.5, a tie between 1 and 2 times 2^-1074
 /// ```
 pub fn scale(x: u64, n: i32) -> u64 {
-    weigher_scale(x, n)
+    ffi::weigher_scale(x, n)
 }

@@ -1,6 +1,18 @@
 #![doc = include_str!("../README.md")]
 
+mod answer;
 pub mod bits;
+mod ffi;
+mod payload;
+mod refusal;
+mod service;
+mod stream;
+
+pub use answer::{Answer, Answers};
+pub use payload::{Screening, payload, screening};
+pub use refusal::Refusal;
+pub use service::{ANSWER_ROOM, HandedOn, LONGEST_BODY, PartialFrame, State, Taken};
+pub use stream::{Stream, serve};
 
 /// 2^x - 1, the score of the weight x.
 ///

@@ -1,0 +1,69 @@
+use std::error::Error;
+use std::fmt;
+
+/// Why a frame or a call was refused. The numbers are those of the protocol.
+///
+/// ```
+/// use weigher::Refusal;
+/// assert_eq!(Refusal::BadKind.number(), 4);
+/// assert_eq!(Refusal::from_number(4), Some(Refusal::BadKind));
+/// assert_eq!(Refusal::from_number(0), None);
+/// assert_eq!(Refusal::BadKind.to_string(), "the kind is neither 1 nor 2");
+/// ```
+#[derive(Clone, Copy, Debug, PartialEq, Eq, Hash)]
+#[repr(u8)]
+pub enum Refusal {
+    /// A frame's body has under 2 bytes.
+    ShortBody = 1,
+    /// A frame's body has over [`LONGEST_BODY`](crate::LONGEST_BODY) bytes.
+    LongBody = 2,
+    /// A frame's version is not 1.
+    BadVersion = 3,
+    /// A frame's kind is neither 1 nor 2.
+    BadKind = 4,
+    /// A payload is empty, or is no whole items.
+    BadPayload = 5,
+    /// A call's buffer has under [`ANSWER_ROOM`](crate::ANSWER_ROOM) bytes.
+    SmallBuffer = 6,
+    /// A call's state is one that no bytes leave.
+    BadState = 7,
+    /// The stream ended inside a frame.
+    Unfinished = 8,
+}
+
+impl Refusal {
+    pub fn number(self) -> u8 {
+        self as u8
+    }
+
+    pub fn from_number(number: u8) -> Option<Refusal> {
+        Some(match number {
+            1 => Refusal::ShortBody,
+            2 => Refusal::LongBody,
+            3 => Refusal::BadVersion,
+            4 => Refusal::BadKind,
+            5 => Refusal::BadPayload,
+            6 => Refusal::SmallBuffer,
+            7 => Refusal::BadState,
+            8 => Refusal::Unfinished,
+            _ => return None,
+        })
+    }
+}
+
+impl fmt::Display for Refusal {
+    fn fmt(&self, f: &mut fmt::Formatter<'_>) -> fmt::Result {
+        f.write_str(match self {
+            Refusal::ShortBody => "the body has under 2 bytes",
+            Refusal::LongBody => "the body has over 514 bytes",
+            Refusal::BadVersion => "the version is not 1",
+            Refusal::BadKind => "the kind is neither 1 nor 2",
+            Refusal::BadPayload => "the payload is empty, or is no whole items",
+            Refusal::SmallBuffer => "the buffer has under 516 bytes",
+            Refusal::BadState => "the state is one that no bytes leave",
+            Refusal::Unfinished => "the stream ended inside a frame",
+        })
+    }
+}
+
+impl Error for Refusal {}

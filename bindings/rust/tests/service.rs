@@ -1,0 +1,335 @@
+//! The service, payload and screening: document 01's whole case, cut and recorded streams, and refused calls.
+
+use std::io::{self, Read, Write};
+use weigher::{
+    ANSWER_ROOM, LONGEST_BODY, PartialFrame, Refusal, Screening, State, Stream, payload, screening,
+    serve,
+};
+
+/// Document 01's whole case: the weight -54, a body of no bytes, and half of a length.
+const FRAMES: &[u8] = &[0, 10, 1, 1, 0xc0, 0x4b, 0, 0, 0, 0, 0, 0, 0, 0, 0];
+const ANSWERS: [&[u8]; 3] = [
+    &[0, 10, 1, 0, 0xbf, 0xf0, 0, 0, 0, 0, 0, 0],
+    &[0, 2, 1, 1],
+    &[0, 2, 1, 8],
+];
+
+/// A stream with every refusal and lengths from 0 to 65,535, and the answers to it.
+const RECORDED: &[u8] = include_bytes!("../../../crates/replay/stdin");
+const RECORDED_ANSWERS: &[u8] = include_bytes!("../../../crates/replay/stdout");
+
+const FILL: u8 = 0xee;
+
+#[test]
+fn frame_by_frame() -> Result<(), Refusal> {
+    let mut state = State::fresh();
+    let mut buffer = [FILL; ANSWER_ROOM];
+    let mut left = FRAMES;
+    for (answer, used) in ANSWERS[..2].iter().zip([12, 2]) {
+        let taken = state.take(left, &mut buffer)?;
+        assert_eq!(taken.used, used);
+        assert_eq!(taken.answer.unwrap().bytes(), *answer);
+        assert_eq!(state, State::fresh());
+        left = &left[used..];
+    }
+    let taken = state.take(left, &mut buffer)?;
+    assert_eq!((taken.used, taken.answer), (1, None));
+    assert_eq!(state.frame.count, 1);
+    assert_eq!(state.close(&mut buffer)?.unwrap().bytes(), ANSWERS[2]);
+    assert_eq!(state, State::fresh());
+    assert_eq!(state.close(&mut buffer)?, None);
+    assert!(buffer[12..].iter().all(|byte| *byte == FILL));
+    Ok(())
+}
+
+#[test]
+fn a_whole_piece() -> Result<(), Refusal> {
+    let mut state = State::fresh();
+    let mut buffer = [FILL; 2 * ANSWER_ROOM];
+    let handed = state.hand_on(FRAMES, &mut buffer)?;
+    assert_eq!(handed.used, FRAMES.len());
+    assert_eq!(handed.answers.bytes(), ANSWERS[..2].concat());
+    assert!(
+        handed
+            .answers
+            .map(|answer| answer.bytes())
+            .eq(ANSWERS[..2].iter().copied())
+    );
+    assert_eq!(state.frame.count, 1);
+    assert!(buffer[16..].iter().all(|byte| *byte == FILL));
+    Ok(())
+}
+
+/// Without room for another answer the rest of the piece is left.
+#[test]
+fn a_piece_in_part() -> Result<(), Refusal> {
+    let mut buffer = [FILL; ANSWER_ROOM];
+    let handed = State::fresh().hand_on(FRAMES, &mut buffer)?;
+    assert_eq!((handed.used, handed.answers.count()), (12, 1));
+    Ok(())
+}
+
+/// All that a stream answers to pieces, and at its end.
+fn answers<'a>(pieces: impl IntoIterator<Item = &'a [u8]>) -> Vec<u8> {
+    let mut stream = Stream::new();
+    let mut answers = Vec::new();
+    for piece in pieces {
+        for answer in stream.feed(piece) {
+            answers.extend_from_slice(answer.bytes());
+        }
+    }
+    if let Some(answer) = stream.close() {
+        answers.extend_from_slice(answer.bytes());
+    }
+    assert_eq!(stream.state(), State::fresh());
+    answers
+}
+
+/// A frame with results, one of each refusal of a frame, and an unfinished one.
+fn short_stream() -> Vec<u8> {
+    let mut bytes = FRAMES[..14].to_vec();
+    bytes.extend([0, 2, 2, 1, 0, 2, 1, 3, 0, 3, 1, 2, 0]);
+    bytes.extend([2, 3]);
+    bytes.extend([0; LONGEST_BODY + 1]);
+    bytes.extend(&FRAMES[..11]);
+    bytes
+}
+
+#[test]
+fn every_cut() {
+    let bytes = short_stream();
+    let whole = answers([&bytes[..]]);
+    let refusals = [1, 3, 4, 5, 2, 8].map(|number| [0, 2, 1, number]);
+    assert_eq!(whole, [ANSWERS[0], refusals.as_flattened()].concat());
+    for cut in 0..=bytes.len() {
+        let (front, end) = bytes.split_at(cut);
+        assert_eq!(answers([front, end]), whole, "{cut}");
+    }
+    for size in 1..40 {
+        assert_eq!(answers(bytes.chunks(size)), whole, "{size}");
+    }
+}
+
+#[test]
+fn the_recorded_stream() {
+    for size in [1, 7, 512, 65536, RECORDED.len()] {
+        assert!(answers(RECORDED.chunks(size)) == RECORDED_ANSWERS, "{size}");
+    }
+}
+
+#[test]
+fn results_of_both_kinds() -> Result<(), Refusal> {
+    let weights = [2.0, -1.0, 0.0, f64::NEG_INFINITY];
+    let mut stream = Stream::new();
+    let answer = stream.feed(&frame(1, &weights)).next().unwrap();
+    assert!(answer.results()?.eq(weights.map(weigher::score)));
+    assert_eq!(answer.results()?.len(), weights.len());
+    let answer = stream.feed(&frame(2, &[2.0, 3.0, 1.0])).next().unwrap();
+    assert!(answer.results()?.eq([7.0]));
+    let answer = stream.feed(&frame(1, &[f64::NAN])).next().unwrap();
+    assert!(answer.patterns()?.eq([weigher::bits::NAN]));
+    Ok(())
+}
+
+fn frame(kind: u8, items: &[f64]) -> Vec<u8> {
+    let length = u16::try_from(2 + 8 * items.len()).unwrap().to_be_bytes();
+    let items = items.iter().flat_map(|x| x.to_be_bytes());
+    length.into_iter().chain([1, kind]).chain(items).collect()
+}
+
+#[test]
+fn results_of_a_refused_frame() {
+    let mut stream = Stream::new();
+    let answer = stream.feed(&frame(7, &[])).next().unwrap();
+    assert_eq!(answer.refusal(), Some(Refusal::BadKind));
+    assert_eq!(answer.results().err(), Some(Refusal::BadKind));
+    assert_eq!(answer.patterns().err(), Some(Refusal::BadKind));
+}
+
+/// States that no bytes leave: all ones, a body before its length, a length byte before its time, and a whole frame.
+fn bad_states() -> [State; 4] {
+    let mut bad = [State::fresh(); 4];
+    bad[0].frame = PartialFrame {
+        count: usize::MAX,
+        hi: 0xff,
+        lo: 0xff,
+        body: [0xff; LONGEST_BODY],
+    };
+    bad[1].frame.body[LONGEST_BODY - 1] = 1;
+    bad[2].frame.hi = 1;
+    bad[3].frame.count = 2;
+    bad
+}
+
+/// Every call with this state and buffer is refused, and changes neither.
+fn all_refused(state: State, room: usize, refusal: Refusal) {
+    let mut after = state;
+    let mut buffer = vec![FILL; room];
+    assert_eq!(after.take(FRAMES, &mut buffer).err(), Some(refusal));
+    assert_eq!(after.hand_on(FRAMES, &mut buffer).err(), Some(refusal));
+    assert_eq!(after.close(&mut buffer).err(), Some(refusal));
+    assert_eq!(after, state);
+    assert!(buffer.iter().all(|byte| *byte == FILL));
+}
+
+#[test]
+fn refused_calls() {
+    for room in [0, 1, ANSWER_ROOM - 1] {
+        all_refused(State::fresh(), room, Refusal::SmallBuffer);
+        for state in bad_states() {
+            all_refused(state, room, Refusal::SmallBuffer);
+        }
+    }
+    for room in [ANSWER_ROOM, 600] {
+        for state in bad_states() {
+            all_refused(state, room, Refusal::BadState);
+        }
+    }
+}
+
+/// The same call can be made again with a good buffer.
+#[test]
+fn a_refused_call_loses_nothing() -> Result<(), Refusal> {
+    let mut state = State::default();
+    let mut buffer = [FILL; ANSWER_ROOM];
+    state.take(&FRAMES[..7], &mut buffer)?;
+    assert!(state.take(&FRAMES[7..], &mut []).is_err());
+    let taken = state.take(&FRAMES[7..], &mut buffer)?;
+    assert_eq!(taken.answer.unwrap().bytes(), ANSWERS[0]);
+    Ok(())
+}
+
+#[test]
+fn the_place_of_a_payload() {
+    for n in 0..=FRAMES.len() {
+        let body = &FRAMES[..n];
+        let part = payload(body);
+        assert_eq!(part.len(), n.saturating_sub(2));
+        assert_eq!(part.as_ptr_range().end, body.as_ptr_range().end);
+    }
+}
+
+#[test]
+fn screening_finds_each_place() {
+    let mut weights = [0.5; 64];
+    for place in 0..weights.len() {
+        weights[place] = f64::INFINITY;
+        assert_eq!(screening(&frame(1, &weights)[4..]), Screening::Clean);
+        for nan in [0x7ff0000000000001, 0xffffffffffffffff] {
+            weights[place] = f64::from_bits(nan);
+            assert_eq!(
+                screening(&frame(1, &weights)[4..]),
+                Screening::Missing(place)
+            );
+        }
+        weights[place] = 0.5;
+    }
+}
+
+#[test]
+fn screening_refuses_what_is_no_weights() {
+    for n in (0..64).filter(|n| n % 8 != 0 || *n == 0) {
+        let payload = vec![0xff; n];
+        assert_eq!(
+            screening(&payload),
+            Screening::Refused(Refusal::BadPayload),
+            "{n}"
+        );
+    }
+}
+
+/// Gives a stream in pieces of some sizes, with an interruption before each; then its end, or an error.
+struct Pieces<'a> {
+    left: &'a [u8],
+    sizes: std::iter::Cycle<std::slice::Iter<'a, usize>>,
+    interrupted: bool,
+    fails: bool,
+}
+
+fn pieces<'a>(left: &'a [u8], sizes: &'a [usize]) -> Pieces<'a> {
+    Pieces {
+        left,
+        sizes: sizes.iter().cycle(),
+        interrupted: false,
+        fails: false,
+    }
+}
+
+impl Read for Pieces<'_> {
+    fn read(&mut self, buffer: &mut [u8]) -> io::Result<usize> {
+        self.interrupted = !self.interrupted;
+        if self.interrupted {
+            return Err(io::ErrorKind::Interrupted.into());
+        }
+        if self.left.is_empty() && self.fails {
+            return Err(io::ErrorKind::ConnectionReset.into());
+        }
+        let n = self
+            .left
+            .len()
+            .min(*self.sizes.next().unwrap())
+            .min(buffer.len());
+        let (piece, left) = self.left.split_at(n);
+        buffer[..n].copy_from_slice(piece);
+        self.left = left;
+        Ok(n)
+    }
+}
+
+#[test]
+fn serve_answers_a_stream() -> io::Result<()> {
+    for sizes in [&[1, 2, 3, 500][..], &[65536], &[9, 100_000]] {
+        let mut written = Vec::new();
+        serve(pieces(RECORDED, sizes), &mut written)?;
+        assert!(written == RECORDED_ANSWERS, "{sizes:?}");
+    }
+    Ok(())
+}
+
+#[test]
+fn serve_of_nothing() -> io::Result<()> {
+    let mut written = Vec::new();
+    serve(io::empty(), &mut written)?;
+    assert!(written.is_empty());
+    Ok(())
+}
+
+/// A read that fails is no end: the frames before it are answered, and the unfinished one is not.
+#[test]
+fn serve_returns_the_error_of_a_read() {
+    let mut written = Vec::new();
+    let reader = Pieces {
+        fails: true,
+        ..pieces(FRAMES, &[4])
+    };
+    let error = serve(reader, &mut written).unwrap_err();
+    assert_eq!(error.kind(), io::ErrorKind::ConnectionReset);
+    assert_eq!(written, ANSWERS[..2].concat());
+}
+
+/// Takes so many bytes, and then fails.
+struct Full(usize);
+
+impl Write for Full {
+    fn write(&mut self, bytes: &[u8]) -> io::Result<usize> {
+        if self.0 == 0 {
+            return Err(io::ErrorKind::StorageFull.into());
+        }
+        let n = bytes.len().min(self.0);
+        self.0 -= n;
+        Ok(n)
+    }
+
+    fn flush(&mut self) -> io::Result<()> {
+        Ok(())
+    }
+}
+
+#[test]
+fn serve_returns_the_error_of_a_write() {
+    for room in 0..20 {
+        let error = serve(FRAMES, Full(room)).unwrap_err();
+        assert_eq!(error.kind(), io::ErrorKind::StorageFull, "{room}");
+    }
+    assert!(serve(FRAMES, Full(20)).is_ok());
+}
