@@ -171,10 +171,11 @@ pub zero-sums :
 unfolding fusedBits
 zero-sums = refl
 
--- 1 + 2^-1074; 1 - 2^-1074; -1 - 2^-1074; the tie 1 + 3 * 2^-53; 2^-1074 * 2^-1074, and negative; the largest number * 2, and negative
+-- 1 + 2^-1074; 1 - 2^-1074; -2^-1074 + 1; -1 - 2^-1074; the tie 1 + 3 * 2^-53; 2^-1074 * 2^-1074, and negative; the largest number * 2, and negative
 pub inexact-sums :
     fusedEach one one least one one 0x3ff0000000000001 one
     && fusedEach one one 0x8000000000000001 one 0x3fefffffffffffff one 0x3fefffffffffffff
+    && fusedEach least minusOne one one 0x3fefffffffffffff one 0x3fefffffffffffff
     && fusedEach minusOne one 0x8000000000000001 minusOne minusOne minusOne 0xbff0000000000001
     && fusedEach one 0x3ff0000000000001 0x3ca0000000000000 0x3ff0000000000002 0x3ff0000000000001 0x3ff0000000000002 0x3ff0000000000001
     && fusedEach least least 0 0 0 least 0
