@@ -5,3 +5,4 @@ pub mod Room
 pub mod Alike
 pub mod Calls
 pub mod Streams
+mod Examples

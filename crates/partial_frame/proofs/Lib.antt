@@ -3,3 +3,4 @@ pub mod Held
 pub mod Reach
 pub mod Loops
 pub mod Skipped
+mod Examples

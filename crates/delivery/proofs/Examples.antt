@@ -1,0 +1,40 @@
+-- Worked examples of specs/Delivery.antt, computed: refusals 6 and 7, untouched, and pieces that are handed on. Assumes nothing.
+use Prim.Native.Nat.{ℕ}
+use mathlib.Core.Path.{_≡_, refl}
+use mathlib.Core.List.{List, [], _∷_}
+use lib.ListN.{replicate}
+use Rattle.frames.specs.Frame.{kept, whole, refusalTo}
+use Rattle.answers.specs.Answers.{answerOf, answerTo}
+use Rattle.partial_frame.specs.State.{keptBytes, placesOf, isLeft, bytesIn}
+use Rattle.service.specs.Book.{Reply}
+use Rattle.service.specs.Service.{isGood, bookOf}
+use Rattle.service.specs.declared.State.{State}
+use Rattle.delivery.specs.Delivery.{handOn, deliveryOf}
+
+-- a state by what has come of its frame: a number of bytes and the length bytes
+abbrev stateOf : ℕ → ℕ → ℕ → State
+stateOf count hi lo = record { frame = record { count = count; hi = hi; lo = lo; body = replicate 514 0 } }
+
+abbrev replied : ℕ → ℕ → ℕ → State → List ℕ → Reply
+replied used len number state buffer = record { used = used; len = len; number = number; state = state; buffer = buffer }
+
+-- a buffer whose bytes are all 9
+abbrev nines : ℕ → List ℕ
+nines n = replicate n 9
+
+-- 515 bytes of buffer and 516; a state with a length byte that has not come; both
+pub refusals :
+    (handOn (stateOf 0 0 0) (0 ∷ []) (nines 515) ≡ replied 0 0 6 (stateOf 0 0 0) (nines 515))
+    × (handOn (stateOf 0 0 0) (0 ∷ []) (nines 516) ≡ replied 1 0 0 (stateOf 1 0 0) (nines 516))
+    × (handOn (stateOf 0 1 0) (0 ∷ []) (nines 516) ≡ replied 0 0 7 (stateOf 0 1 0) (nines 516))
+    × (handOn (stateOf 0 1 0) (0 ∷ []) (nines 515) ≡ replied 0 0 6 (stateOf 0 1 0) (nines 515))
+    × (handOn (stateOf 0 1 0) [] [] ≡ replied 0 0 6 (stateOf 0 1 0) [])
+unfolding handOn deliveryOf isGood bookOf isLeft bytesIn kept whole keptBytes placesOf
+refusals = (refl, refl, refl, refl, refl)
+
+-- two frames of length 0 and half a length: with room for one answer, and for two and what comes behind them
+pub pieces :
+    (handOn (stateOf 0 0 0) (0 ∷ 0 ∷ 0 ∷ 0 ∷ 3 ∷ []) (nines 516) ≡ replied 2 4 0 (stateOf 0 0 0) (0 ∷ 2 ∷ 1 ∷ 1 ∷ nines 512))
+    × (handOn (stateOf 0 0 0) (0 ∷ 0 ∷ 0 ∷ 0 ∷ 3 ∷ []) (nines 524) ≡ replied 5 8 0 (stateOf 1 3 0) (0 ∷ 2 ∷ 1 ∷ 1 ∷ 0 ∷ 2 ∷ 1 ∷ 1 ∷ nines 516))
+unfolding handOn deliveryOf isGood bookOf isLeft bytesIn kept whole keptBytes placesOf refusalTo answerOf answerTo
+pieces = (refl, refl)
