@@ -1,6 +1,55 @@
 //! The functions of C: those of include/weigher.h, the fma that the score calls, the platform's ldexp and ldexpf, and musl's fma where it is linked.
 //!
-//! Nothing checks these declarations against the C side. All of them take and return plain numbers, and are safe to call.
+//! Nothing checks these declarations against the C side. Those that take and return plain numbers are safe to call; those that are lent
+//! bytes, as a pointer and a length, have a function over slices here.
+
+/// The longest body that a state holds.
+pub const BODY_PLACES: usize = 514;
+
+#[repr(C)]
+#[derive(Clone, Copy, PartialEq, Eq)]
+pub struct PartialFrame {
+    pub count: usize,
+    pub hi: u8,
+    pub lo: u8,
+    pub body: [u8; BODY_PLACES],
+}
+
+#[repr(C)]
+#[derive(Clone, Copy, PartialEq, Eq)]
+pub struct State {
+    pub frame: PartialFrame,
+}
+
+#[repr(C)]
+pub struct Taken {
+    pub state: State,
+    pub used: usize,
+    pub len: usize,
+    pub refusal: u8,
+}
+
+#[repr(C)]
+pub struct Closed {
+    pub state: State,
+    pub len: usize,
+    pub refusal: u8,
+}
+
+#[repr(C)]
+pub struct HandedOn {
+    pub state: State,
+    pub used: usize,
+    pub len: usize,
+    pub refusal: u8,
+}
+
+/// The tag 0 comes with the refusal's number, 1 with 0, and 2 with a place.
+#[repr(C)]
+pub struct Screening {
+    pub tag: u8,
+    pub number: usize,
+}
 
 #[link(name = "capi", kind = "static")]
 unsafe extern "C" {
@@ -9,6 +58,66 @@ unsafe extern "C" {
     pub safe fn weigher_floor(x: u64) -> u64;
     pub safe fn weigher_scale(x: u64, n: i32) -> u64;
     pub safe fn weigher_score(x: u64) -> u64;
+    pub safe fn weigher_fresh() -> State;
+    fn weigher_take(
+        state: State,
+        piece: *const u8,
+        piece_length: usize,
+        answer: *mut u8,
+        answer_length: usize,
+    ) -> Taken;
+    fn weigher_close(state: State, answer: *mut u8, answer_length: usize) -> Closed;
+    fn weigher_hand_on(
+        state: State,
+        piece: *const u8,
+        piece_length: usize,
+        answers: *mut u8,
+        answers_length: usize,
+    ) -> HandedOn;
+    fn weigher_payload(body: *const u8, length: usize) -> usize;
+    fn weigher_screening(payload: *const u8, length: usize) -> Screening;
+}
+
+pub fn take(state: State, piece: &[u8], answer: &mut [u8]) -> Taken {
+    // SAFETY: the bytes of the slices, here and below, are lent for the call, and the answer's to this call alone.
+    unsafe {
+        weigher_take(
+            state,
+            piece.as_ptr(),
+            piece.len(),
+            answer.as_mut_ptr(),
+            answer.len(),
+        )
+    }
+}
+
+pub fn close(state: State, answer: &mut [u8]) -> Closed {
+    // SAFETY: as in take.
+    unsafe { weigher_close(state, answer.as_mut_ptr(), answer.len()) }
+}
+
+pub fn hand_on(state: State, piece: &[u8], answers: &mut [u8]) -> HandedOn {
+    // SAFETY: as in take.
+    unsafe {
+        weigher_hand_on(
+            state,
+            piece.as_ptr(),
+            piece.len(),
+            answers.as_mut_ptr(),
+            answers.len(),
+        )
+    }
+}
+
+/// Where the payload of a body starts.
+pub fn payload(body: &[u8]) -> usize {
+    // SAFETY: as in take.
+    unsafe { weigher_payload(body.as_ptr(), body.len()) }
+}
+
+pub fn screening(payload: &[u8]) -> Screening {
+    // SAFETY: as in take.
+    unsafe { weigher_screening(payload.as_ptr(), payload.len()) }
 }
 
 #[link(name = "fast_fused_c", kind = "static")]

@@ -2,12 +2,15 @@
 //! vectors and streams, comparisons and timings (see README.md).
 
 mod bench;
+mod book;
+mod calls;
 mod case;
 mod cases;
 mod frames;
 mod machine;
 #[cfg(mpfr)]
 mod mpfr;
+mod payloads;
 mod random;
 mod recorded;
 mod run;
@@ -15,7 +18,9 @@ mod rust;
 mod score;
 mod serve;
 mod service;
+mod states;
 mod streams;
+mod tally;
 mod throughput;
 mod values;
 mod vectors;
@@ -24,8 +29,8 @@ use std::env;
 use std::io;
 use std::process::ExitCode;
 
-const USAGE: &str = "usage: compare run [MILLIONS] | compare mpfr [THOUSANDS] | compare streams [THOUSANDS] | compare bench
-       compare throughput [MEGABYTES] | compare serve [weigher] | compare vectors | compare score-vectors
+const USAGE: &str = "usage: compare run [MILLIONS] | compare mpfr [THOUSANDS] | compare streams [THOUSANDS] | compare calls [THOUSANDS]
+       compare bench | compare throughput [MEGABYTES] | compare serve [weigher] | compare vectors | compare score-vectors
        compare stream | compare short-stream | compare random-stream SEED | compare answers";
 
 fn main() -> ExitCode {
@@ -38,6 +43,8 @@ fn main() -> ExitCode {
         ["mpfr", thousands] => with_number(thousands, compare_mpfr),
         ["streams"] => succeeds(streams::compare(100)),
         ["streams", thousands] => with_number(thousands, streams::compare),
+        ["calls"] => succeeds(calls::compare(100)),
+        ["calls", thousands] => with_number(thousands, calls::compare),
         ["throughput"] => succeeds(throughput::run(100)),
         ["throughput", megabytes] => with_number(megabytes, throughput::run),
         ["serve"] => written(serve::serve(&service::REFERENCE)),

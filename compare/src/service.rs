@@ -35,13 +35,24 @@ pub fn answer_frames<'a>(
 ) -> &'a [u8] {
     let mut rest = stream;
     while let Some((body, next)) = first_frame(rest) {
-        match results(body, operations) {
-            Ok(results) => write_answer(&results, output),
-            Err(number) => write_refusal(number, output),
-        }
+        answer(body, operations, output);
         rest = next;
     }
     rest
+}
+
+/// Writes the answer to a whole frame with this body, and returns the refusal's number or 0.
+pub fn answer(body: &[u8], operations: &Operations, output: &mut Vec<u8>) -> u8 {
+    match results(body, operations) {
+        Ok(results) => {
+            write_answer(&results, output);
+            0
+        }
+        Err(number) => {
+            write_refusal(number, output);
+            number
+        }
+    }
 }
 
 /// Writes the answer to the end of a stream after an unfinished frame.
@@ -52,7 +63,7 @@ pub fn answer_end(unfinished: &[u8], output: &mut Vec<u8>) {
 }
 
 /// The body of the first frame and what is behind it, where the frame is whole.
-fn first_frame(stream: &[u8]) -> Option<(&[u8], &[u8])> {
+pub fn first_frame(stream: &[u8]) -> Option<(&[u8], &[u8])> {
     let (length, rest) = stream.split_first_chunk()?;
     rest.split_at_checked(usize::from(u16::from_be_bytes(*length)))
 }
@@ -91,7 +102,7 @@ fn result(item: &[u64], operations: &Operations) -> u64 {
     }
 }
 
-fn patterns(bytes: &[u8]) -> Vec<u64> {
+pub fn patterns(bytes: &[u8]) -> Vec<u64> {
     let (floats, _) = bytes.as_chunks();
     floats.iter().copied().map(u64::from_be_bytes).collect()
 }
@@ -103,6 +114,6 @@ fn write_answer(results: &[u64], output: &mut Vec<u8>) {
     output.extend(results.iter().flat_map(|result| result.to_be_bytes()));
 }
 
-fn write_refusal(number: u8, output: &mut Vec<u8>) {
+pub fn write_refusal(number: u8, output: &mut Vec<u8>) {
     output.extend([0, 2, 1, number]);
 }

@@ -1,0 +1,155 @@
+//! payload and screening, on bodies and payloads of 0 to 600 bytes.
+
+use std::ptr;
+
+use crate::calls::hexadecimal;
+use crate::random::Random;
+use crate::score;
+use crate::service::{self, FLOAT};
+use crate::tally::{Mismatches, Tally};
+
+const LONGEST: usize = 600;
+
+const INFINITIES: [u64; 2] = [0x7ff0000000000000, 0xfff0000000000000];
+
+/// The least NaN, the one that the weigher replies with and the largest, of either sign.
+const NANS: [u64; 6] = [
+    0x7ff0000000000001,
+    0x7ff8000000000000,
+    0x7fffffffffffffff,
+    0xfff0000000000001,
+    0xfff8000000000000,
+    0xffffffffffffffff,
+];
+
+/// Runs so many thousand bodies and payloads; false where a reply is wrong or an outcome never came.
+pub fn compare(thousands: u64) -> bool {
+    let mut random = Random::new(9);
+    let mut mismatches = Mismatches::default();
+    let mut bodies = Tally::new("payload, by its length", ["none", "0", "more"]);
+    let mut payloads = Tally::new(
+        "screening",
+        [
+            "5, empty",
+            "5, no multiple of 8",
+            "none",
+            "place of the only NaN",
+            "place of one among several",
+        ],
+    );
+    for _ in 0..thousands * 1000 {
+        compare_payload(&any_body(&mut random), &mut bodies, &mut mismatches);
+        compare_screening(&any_payload(&mut random), &mut payloads, &mut mismatches);
+    }
+    let reached = [&bodies, &payloads].map(Tally::print);
+    mismatches.print() && reached == [true; 2]
+}
+
+/// Half of the bodies are short.
+fn any_body(random: &mut Random) -> Vec<u8> {
+    let longest = random.pick(&[4, LONGEST]);
+    let length = random.below(longest as u64 + 1);
+    (0..length).map(|_| random.word() as u8).collect()
+}
+
+fn compare_payload(body: &[u8], tally: &mut Tally, mismatches: &mut Mismatches) {
+    let (outcome, want) = match body {
+        [_, _, payload @ ..] if payload.is_empty() => ("0", payload),
+        [_, _, payload @ ..] => ("more", payload),
+        _ => ("none", &body[body.len()..]),
+    };
+    tally.count(outcome);
+    let start = ffi::payload(body);
+    // The same place and length, and so the same bytes.
+    if !body.get(start..).is_some_and(|got| ptr::eq(got, want)) {
+        mismatches.report(format!(
+            "payload of a body of {} bytes: from {start} on",
+            body.len()
+        ));
+    }
+}
+
+/// Weights, with NaNs nowhere, first, last, at some place or at many, and the end cut off in some.
+fn any_payload(random: &mut Random) -> Vec<u8> {
+    let count = random.below((LONGEST / FLOAT) as u64 + 1) as usize;
+    let mut weights: Vec<u64> = (0..count).map(|_| number(random)).collect();
+    let some = random.below(count as u64) as usize;
+    match random.below(6) {
+        0 => weights
+            .first_mut()
+            .into_iter()
+            .for_each(|x| *x = nan(random)),
+        1 => weights
+            .last_mut()
+            .into_iter()
+            .for_each(|x| *x = nan(random)),
+        2 => weights
+            .get_mut(some)
+            .into_iter()
+            .for_each(|x| *x = nan(random)),
+        3 => weights.fill_with(|| {
+            if random.below(4) == 0 {
+                nan(random)
+            } else {
+                number(random)
+            }
+        }),
+        _ => {}
+    }
+    let mut bytes: Vec<u8> = weights.iter().flat_map(|x| x.to_be_bytes()).collect();
+    if random.below(4) == 0 {
+        bytes.truncate(bytes.len().saturating_sub(random.below(8) as usize));
+    }
+    bytes
+}
+
+/// A weight that is no NaN: an infinity in its place.
+fn number(random: &mut Random) -> u64 {
+    let x = score::weight(random);
+    if f64::from_bits(x).is_nan() {
+        random.pick(&INFINITIES)
+    } else {
+        x
+    }
+}
+
+fn nan(random: &mut Random) -> u64 {
+    match random.below(2) {
+        0 => random.pick(&NANS),
+        _ => random.pick(&INFINITIES) | random.between(1, (1 << 52) - 1) as u64,
+    }
+}
+
+/// Among several NaNs the place is free.
+fn compare_screening(payload: &[u8], tally: &mut Tally, mismatches: &mut Mismatches) {
+    let got = ffi::screening(payload);
+    let reply = (got.tag, got.number);
+    let (outcome, right) = if payload.is_empty() {
+        ("5, empty", reply == (0, 5))
+    } else if !payload.len().is_multiple_of(FLOAT) {
+        ("5, no multiple of 8", reply == (0, 5))
+    } else {
+        let weights = service::patterns(payload);
+        let nans: Vec<usize> = (0..weights.len())
+            .filter(|place| f64::from_bits(weights[*place]).is_nan())
+            .collect();
+        match nans[..] {
+            [] => ("none", reply == (1, 0)),
+            [place] => ("place of the only NaN", reply == (2, place)),
+            _ => (
+                "place of one among several",
+                got.tag == 2 && nans.contains(&got.number),
+            ),
+        }
+    };
+    tally.count(outcome);
+    if !right {
+        mismatches.report(format!(
+            "screening: {outcome}: tag {}, number {}, for a payload of {} bytes: {}",
+            got.tag,
+            got.number,
+            payload.len(),
+            hexadecimal(payload)
+        ));
+    }
+}
