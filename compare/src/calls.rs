@@ -2,7 +2,7 @@
 
 use ffi::State;
 
-use crate::book::{Book, Call, Kind, Reply, Service};
+use crate::book::{ANSWER_ROOM, Book, Call, Kind, Reply, Service};
 use crate::random::Random;
 use crate::service::{self, Operations};
 use crate::states::{self, Start};
@@ -10,7 +10,7 @@ use crate::tally::{Mismatches, Tally};
 use crate::{frames, machine, payloads, rust, serve};
 
 /// Most calls of one list.
-const CALLS: i64 = 12;
+const CALLS: i64 = 20;
 
 /// The longest piece and buffer, and the longest of a hand_on that may write many answers.
 const LONGEST: usize = 600;
@@ -216,11 +216,11 @@ impl Source {
         };
         let piece = match kind {
             Kind::Close => 0,
-            _ => any_length(&[0, 1, 2, 3], longest, random),
+            _ => any_length(&[0, 1, 2, 3, LONGEST], longest, random),
         };
-        let buffer = match random.below(4) {
-            0 => any_length(&[0, 515], LONGEST, random),
-            _ => any_length(&[516, 517], longest, random).max(516),
+        let buffer = match random.below(5) {
+            0 => any_length(&[0, ANSWER_ROOM - 1], LONGEST, random),
+            _ => any_length(&[ANSWER_ROOM, ANSWER_ROOM + 1], longest, random).max(ANSWER_ROOM),
         };
         Call {
             kind,
@@ -245,9 +245,9 @@ impl Source {
     }
 }
 
-/// One of those given, half of the time, and else any up to the longest.
+/// One of those given, in a third, and else any up to the longest.
 fn any_length(given: &[usize], longest: usize, random: &mut Random) -> usize {
-    match random.below(2) {
+    match random.below(3) {
         0 => random.pick(given),
         _ => random.below(longest as u64 + 1) as usize,
     }
