@@ -41,10 +41,11 @@ program:
 constants:
 	tests/constants.sh
 
-# Edge cases and a million random ones of each operation, where rustc is there; the score and random streams where the Rust source is too.
+# Edge cases and a million random ones of each operation, and lists of calls, where rustc is there; the score and random streams where the
+# Rust source is too.
 compare: archive program
 	@if command -v rustc >/dev/null; then \
-	    rt staticlib fast_fused_c && compare/build.sh && target/compare/compare run 1 && target/compare/compare streams 2; \
+	    rt staticlib fast_fused_c && compare/build.sh && target/compare/compare run 1 && target/compare/compare streams 2 && target/compare/compare calls 10; \
 	else \
 	    echo "rustc is not installed: nothing is compared"; \
 	fi

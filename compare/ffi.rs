@@ -46,7 +46,7 @@ pub struct HandedOn {
 
 /// The tag 0 comes with the refusal's number, 1 with 0, and 2 with a place.
 #[repr(C)]
-pub struct Screening {
+pub struct Screened {
     pub tag: u8,
     pub number: usize,
 }
@@ -75,7 +75,7 @@ unsafe extern "C" {
         answers_length: usize,
     ) -> HandedOn;
     fn weigher_payload(body: *const u8, length: usize) -> usize;
-    fn weigher_screening(payload: *const u8, length: usize) -> Screening;
+    fn weigher_screening(payload: *const u8, length: usize) -> Screened;
 }
 
 pub fn take(state: State, piece: &[u8], answer: &mut [u8]) -> Taken {
@@ -115,7 +115,7 @@ pub fn payload(body: &[u8]) -> usize {
     unsafe { weigher_payload(body.as_ptr(), body.len()) }
 }
 
-pub fn screening(payload: &[u8]) -> Screening {
+pub fn screening(payload: &[u8]) -> Screened {
     // SAFETY: as in take.
     unsafe { weigher_screening(payload.as_ptr(), payload.len()) }
 }

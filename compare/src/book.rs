@@ -116,6 +116,14 @@ impl Book {
         (!book.is_whole() && book.state() == *state).then_some(book)
     }
 
+    /// How many bytes the present frame lacks, or its length bytes where they have not come.
+    pub fn missing(&self) -> usize {
+        match self.held[..] {
+            [hi, lo, ..] => 2 + usize::from(u16::from_be_bytes([hi, lo])) - self.held.len(),
+            _ => 2 - self.held.len(),
+        }
+    }
+
     fn is_whole(&self) -> bool {
         service::first_frame(&self.held).is_some()
     }

@@ -18,6 +18,7 @@ mod rust;
 mod score;
 mod serve;
 mod service;
+mod source;
 mod states;
 mod streams;
 mod tally;

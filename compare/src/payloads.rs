@@ -26,16 +26,10 @@ const NANS: [u64; 6] = [
 pub fn compare(thousands: u64) -> bool {
     let mut random = Random::new(9);
     let mut mismatches = Mismatches::default();
-    let mut bodies = Tally::new("payload, by its length", ["none", "0", "more"]);
+    let mut bodies = Tally::new("payload, by the body", "under 2 bytes|2 bytes|longer");
     let mut payloads = Tally::new(
         "screening",
-        [
-            "5, empty",
-            "5, no multiple of 8",
-            "none",
-            "place of the only NaN",
-            "place of one among several",
-        ],
+        "5, empty|5, no multiple of 8|none|the only NaN|one NaN of several",
     );
     for _ in 0..thousands * 1000 {
         compare_payload(&any_body(&mut random), &mut bodies, &mut mismatches);
@@ -54,9 +48,9 @@ fn any_body(random: &mut Random) -> Vec<u8> {
 
 fn compare_payload(body: &[u8], tally: &mut Tally, mismatches: &mut Mismatches) {
     let (outcome, want) = match body {
-        [_, _, payload @ ..] if payload.is_empty() => ("0", payload),
-        [_, _, payload @ ..] => ("more", payload),
-        _ => ("none", &body[body.len()..]),
+        [_, _, payload @ ..] if payload.is_empty() => ("2 bytes", payload),
+        [_, _, payload @ ..] => ("longer", payload),
+        _ => ("under 2 bytes", &body[body.len()..]),
     };
     tally.count(outcome);
     let start = ffi::payload(body);
@@ -69,36 +63,25 @@ fn compare_payload(body: &[u8], tally: &mut Tally, mismatches: &mut Mismatches) 
     }
 }
 
-/// Weights, with NaNs nowhere, first, last, at some place or at many, and the end cut off in some.
+/// Weights, with NaNs nowhere, first, last, at some place or at many. Some payloads are cut off, and some empty.
 fn any_payload(random: &mut Random) -> Vec<u8> {
-    let count = random.below((LONGEST / FLOAT) as u64 + 1) as usize;
+    let count = random.between(1, (LONGEST / FLOAT) as i64) as usize;
     let mut weights: Vec<u64> = (0..count).map(|_| number(random)).collect();
-    let some = random.below(count as u64) as usize;
-    match random.below(6) {
-        0 => weights
-            .first_mut()
-            .into_iter()
-            .for_each(|x| *x = nan(random)),
-        1 => weights
-            .last_mut()
-            .into_iter()
-            .for_each(|x| *x = nan(random)),
-        2 => weights
-            .get_mut(some)
-            .into_iter()
-            .for_each(|x| *x = nan(random)),
-        3 => weights.fill_with(|| {
-            if random.below(4) == 0 {
-                nan(random)
-            } else {
-                number(random)
-            }
-        }),
-        _ => {}
+    let places = match random.below(6) {
+        0 => vec![0],
+        1 => vec![count - 1],
+        2 => vec![random.below(count as u64) as usize],
+        3 => (0..count).filter(|_| random.below(4) == 0).collect(),
+        _ => vec![],
+    };
+    for place in places {
+        weights[place] = nan(random);
     }
     let mut bytes: Vec<u8> = weights.iter().flat_map(|x| x.to_be_bytes()).collect();
-    if random.below(4) == 0 {
-        bytes.truncate(bytes.len().saturating_sub(random.below(8) as usize));
+    match random.below(16) {
+        0 => bytes.clear(),
+        1..4 => bytes.truncate(random.below(bytes.len() as u64) as usize),
+        _ => {}
     }
     bytes
 }
@@ -130,14 +113,13 @@ fn compare_screening(payload: &[u8], tally: &mut Tally, mismatches: &mut Mismatc
         ("5, no multiple of 8", reply == (0, 5))
     } else {
         let weights = service::patterns(payload);
-        let nans: Vec<usize> = (0..weights.len())
-            .filter(|place| f64::from_bits(weights[*place]).is_nan())
-            .collect();
+        let is_nan = |place: &usize| f64::from_bits(weights[*place]).is_nan();
+        let nans: Vec<usize> = (0..weights.len()).filter(is_nan).collect();
         match nans[..] {
             [] => ("none", reply == (1, 0)),
-            [place] => ("place of the only NaN", reply == (2, place)),
+            [place] => ("the only NaN", reply == (2, place)),
             _ => (
-                "place of one among several",
+                "one NaN of several",
                 got.tag == 2 && nans.contains(&got.number),
             ),
         }

@@ -144,7 +144,7 @@ fn cut(frame: &[u8], random: &mut Random) -> Start {
     let last = frame.len() - 1;
     let length = match random.below(4) {
         0 => (random.below(4) as usize).min(last),
-        1 => last.saturating_sub(random.below(20) as usize),
+        1 => last.saturating_sub(random.below(3) as usize),
         _ => random.below(frame.len() as u64) as usize,
     };
     split(frame, length)

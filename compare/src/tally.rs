@@ -25,21 +25,23 @@ impl Mismatches {
 
 pub struct Tally {
     name: &'static str,
-    counts: Vec<(&'static str, u64)>,
+    counts: Vec<(String, u64)>,
 }
 
 impl Tally {
-    pub fn new(name: &'static str, outcomes: impl IntoIterator<Item = &'static str>) -> Self {
+    /// The outcomes have a bar between them.
+    pub fn new(name: &'static str, outcomes: &str) -> Self {
+        let outcomes = outcomes.split('|');
         Tally {
             name,
-            counts: outcomes.into_iter().map(|outcome| (outcome, 0)).collect(),
+            counts: outcomes.map(|outcome| (outcome.to_string(), 0)).collect(),
         }
     }
 
     pub fn count(&mut self, outcome: &str) {
         let mut counts = self.counts.iter_mut();
         let (_, count) = counts
-            .find(|(name, _)| *name == outcome)
+            .find(|(name, _)| name == outcome)
             .expect("one of the outcomes");
         *count += 1;
     }
