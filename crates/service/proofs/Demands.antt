@@ -16,8 +16,8 @@ use Rattle.service.specs.Demands.{Demand1, Demand3, Unreached, AllLarge,
 use Rattle.service.specs.declared.State.{State}
 use Rattle.service.proofs.Memory.{answer-number, none-shows}
 use Rattle.service.proofs.Simulation.{fresh-whole, run-book, whole-none, take-book, close-book, after-fresh, reply-after}
-use Rattle.service.proofs.Streams.{written-points, fresh-after, same-answers, held-rest}
-use Rattle.service.proofs.Isolation.{alike-blanked}
+use Rattle.service.proofs.Streams.{written-points, fresh-after, held-rest}
+use Rattle.service.proofs.Isolation.{alike-blanked, same-answers}
 use Rattle.service.proofs.Calls.{shown-by}
 use Rattle.service.proofs.Partition.{part-right, part-unique}
 

@@ -46,14 +46,14 @@ sent =
     ∷ Take (0 ∷ 0 ∷ []) room
     ∷ []
 
--- 1024 became a NaN, the version of the third frame 9, and the third byte of the unfinished one 7; the first frame comes in two pieces, the
+-- 1024 became a NaN, the version of the third frame 255, and the third byte of the unfinished one 7; the first frame comes in two pieces, the
 -- second with a byte too many, and before the last frame a take is refused by 6
 abbrev damaged : List Call
 damaged =
     Take (0 ∷ 10 ∷ 1 ∷ []) room
     ∷ Take (drop 3 (one 1 1 0xc0 0x4b) ++ (0 ∷ [])) room
     ∷ Take (one 1 1 0x7f 0xff) room
-    ∷ Take (one 9 1 0xc0 0x4b) room
+    ∷ Take (one 0xff 1 0xc0 0x4b) room
     ∷ Take (0 ∷ 10 ∷ 7 ∷ []) room
     ∷ Close room
     ∷ Close room

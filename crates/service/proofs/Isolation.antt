@@ -1,5 +1,5 @@
--- Two lists whose joined bytes have the same length bytes and closing points are alike: their frames end together. And what isolation gives,
--- frame by frame. Assumes nothing.
+-- Isolation: two lists whose joined bytes have the same length bytes and closing points are alike, since their frames end together; two that
+-- are alike have the same answers; and what that says, point by point. Assumes nothing.
 use Prim.Native.Nat.{ℕ, zero, suc, _+_, _*_}
 use mathlib.Core.Path.{_≡_, refl, sym, ap, subst, _∙_}
 use mathlib.Core.List.{List, [], _∷_, _++_}
@@ -8,8 +8,9 @@ use native.Mathlib.Omega.{arith}
 use lib.ListN.{length, take, length-append}
 use borrow.Author.Tests.{lt-leb, le-leb}
 use Rattle.frames.specs.Frame.{whole}
-use Rattle.service.specs.Memory.{showsMemory}
-use Rattle.service.specs.Stream.{Item, byte, closing, Point, frame, closed, partedFrom}
+use Rattle.service.specs.Memory.{Memory, viewOf, answerWith, remembered, showsMemory}
+use Rattle.service.proofs.Memory.{answer-apart}
+use Rattle.service.specs.Stream.{Item, byte, closing, Point, frame, closed, partedFrom, answersFrom}
 use Rattle.service.specs.Demands.{Place, first, second, inside, toCome, blankedFrom, Alike, SameAnswers}
 
 -- ---- the same length bytes and closing points
@@ -105,7 +106,25 @@ alike-from (byte b ∷ is) (byte c ∷ js) p h k w e =
 pub alike-blanked : (is js : List Item) → blankedFrom is first ≡ blankedFrom js first → Alike (partedFrom [] is .points) (partedFrom [] js .points)
 alike-blanked is js e = alike-from is js first [] [] Both.nothing e
 
--- ---- what isolation gives, point by point
+-- ---- the same answers
+
+same-closings : {ps qs : List Point} (h k : List ℕ) (c d : Memory) → length h ≡ length k → SameAnswers ps qs (answersFrom c ps) (answersFrom d qs)
+    → SameAnswers (closed h ∷ ps) (closed k ∷ qs) (answersFrom c (closed h ∷ ps)) (answersFrom d (closed k ∷ qs))
+same-closings [] [] c d e r = SameAnswers.silent r
+same-closings [] (b ∷ k) c d e r = absurd (omega arith)
+same-closings (a ∷ h) [] c d e r = absurd (omega arith)
+same-closings (a ∷ h) (b ∷ k) c d e r = SameAnswers.closings r
+
+-- whatever the two remember, only a frame that shows the memory can tell
+pub same-answers : {ps qs : List Point} (c d : Memory) → Alike ps qs → SameAnswers ps qs (answersFrom c ps) (answersFrom d qs)
+same-answers c d Alike.none = SameAnswers.none
+same-answers c d (Alike.frames {f} {g} t r) =
+    SameAnswers.frames
+    (λ e n. ap (λ a. a .bytes) (answer-apart (viewOf c) (viewOf d) f n) ∙ ap (λ x. answerWith (viewOf d) x .bytes) e)
+    (same-answers (remembered f (answerWith (viewOf c) f) c) (remembered g (answerWith (viewOf d) g) d) r)
+same-answers c d (Alike.closings {h} {k} l t r) = same-closings h k c d l (same-answers c d r)
+
+-- ---- point by point
 
 pub same-frame : {f a b : List ℕ} {ps qs : List Point} {xs ys : List (List ℕ)}
     → showsMemory f ≡ false → SameAnswers (frame f ∷ ps) (frame f ∷ qs) (a ∷ xs) (b ∷ ys) → (a ≡ b) × SameAnswers ps qs xs ys

@@ -4,17 +4,16 @@ use mathlib.Core.Path.{_≡_, refl, sym, ap, ap₂, _∙_}
 use mathlib.Core.Logic.{_≢_}
 use mathlib.Core.List.{List, [], _∷_, _++_, map, append-nil}
 use mathlib.Core.Bool.{Bool, true, false, cond}
-use lib.ListN.{length, take}
+use lib.ListN.{take}
 use lib.Seq.{take-append-seam}
 use Rattle.frames.specs.Frame.{whole, refusalFrame}
 use Rattle.service.specs.Memory.{Memory, viewOf, stateWith, answerWith, remembered}
-use Rattle.service.proofs.Memory.{answer-some, answer-apart, fresh-with}
-use native.Mathlib.Omega.{arith}
+use Rattle.service.proofs.Memory.{answer-some, fresh-with}
 use Rattle.partial_frame.specs.declared.PartialFrame.{PartialFrame}
 use Rattle.service.specs.Book.{Book, stateOf, emptied, Call, Take, Close, Moved, move, answered, closedWith, bookCall, replyOf, bufferOf, bookReplies, isSmall}
 use Rattle.service.specs.Stream.{Item, byte, movedBy, joinedFrom, Point, frame, closed, Parts, onePoint, partedFrom, answersFrom, writtenBy, written}
 use Rattle.service.specs.Service.{freshState}
-use Rattle.service.specs.Demands.{bookAfter, Alike, SameAnswers}
+use Rattle.service.specs.Demands.{bookAfter}
 use Rattle.partial_frame.proofs.Held.{empty-held}
 use Rattle.service.proofs.Simulation.{held-short, move-whole, move-on}
 
@@ -143,22 +142,6 @@ fresh-after (d ∷ cs) c h n z =
     let b = bookCall h d .book in
     fresh-after cs c b (held-short d h n)
     (λ e. z (points-cons d (cs ++ (c ∷ [])) h n ∙ ap (λ (ps : List Point). pointsBy h d ++ ps) e ∙ sym (points-cons d cs h n)))
-
-same-closings : {ps qs : List Point} (h k : List ℕ) (c d : Memory) → length h ≡ length k → SameAnswers ps qs (answersFrom c ps) (answersFrom d qs)
-    → SameAnswers (closed h ∷ ps) (closed k ∷ qs) (answersFrom c (closed h ∷ ps)) (answersFrom d (closed k ∷ qs))
-same-closings [] [] c d e r = SameAnswers.silent r
-same-closings [] (b ∷ k) c d e r = absurd (omega arith)
-same-closings (a ∷ h) [] c d e r = absurd (omega arith)
-same-closings (a ∷ h) (b ∷ k) c d e r = SameAnswers.closings r
-
--- whatever the two remember, only a frame that shows the memory can tell
-pub same-answers : {ps qs : List Point} (c d : Memory) → Alike ps qs → SameAnswers ps qs (answersFrom c ps) (answersFrom d qs)
-same-answers c d Alike.none = SameAnswers.none
-same-answers c d (Alike.frames {f} {g} t r) =
-    SameAnswers.frames
-    (λ e n. ap (λ a. a .bytes) (answer-apart (viewOf c) (viewOf d) f n) ∙ ap (λ x. answerWith (viewOf d) x .bytes) e)
-    (same-answers (remembered f (answerWith (viewOf c) f) c) (remembered g (answerWith (viewOf d) g) d) r)
-same-answers c d (Alike.closings {h} {k} l t r) = same-closings h k c d l (same-answers c d r)
 
 -- the book holds the unfinished end
 pub held-rest : (cs : List Call) (h : Book) → whole (h .held) ≡ false → bookAfter h cs .held ≡ partedFrom (h .held) (joinedFrom h cs) .rest
