@@ -40,18 +40,21 @@ AllLarge (buffer ∷ buffers) = (isSmall buffer ≡ false) × AllLarge buffers
 
 -- ---- two lists
 
--- where a byte stands: it is the first length byte of a frame, or the second behind the first, or inside a body of which so many more come
+-- where a byte stands
 pub data Place : Type 0 where
+  -- it is the first length byte of a frame
   first : Place
+  -- the second, after this first one
   second : ℕ → Place
+  -- inside a body, of which so many bytes come after it
   inside : ℕ → Place
 
--- the place of the byte after a length, or after a body's byte, where n bytes of the body are to come
+-- the place of the next byte, where n bytes of a body are to come
 abbrev pub toCome : ℕ → Place
 toCome zero = first
 toCome (suc n) = inside n
 
--- the length bytes and the closing points: each byte inside a body is blanked
+-- the items with each byte inside a body as 0: what is left are the length bytes and the closing points
 abbrev pub blankedFrom : List Item → Place → List Item
 blankedFrom [] p = []
 blankedFrom (closing ∷ is) p = closing ∷ blankedFrom is first
@@ -97,7 +100,7 @@ pub record Demand3 : Type 0 where
   pub isolated : (cs ds : List Call) → Alike (pointsOf cs) (pointsOf ds) → SameAnswers (pointsOf cs) (pointsOf ds) (written (run cs)) (written (run ds))
   -- two lists are alike where their joined bytes are the same but for bytes inside bodies
   pub alike : (cs ds : List Call) → blanked (joined cs) ≡ blanked (joined ds) → Alike (pointsOf cs) (pointsOf ds)
-  -- and every frame that is the same in both is one of the others: no answer shows what lasts
+  -- no answer shows what lasts, so it holds for every frame that is the same in both
   pub noneShows : (f : List ℕ) → showsMemory f ≡ false
   -- a piece that is handed on with buffers that are large enough has all its bytes moved, after every list
   pub handed : (cs : List Call) (piece : List ℕ) (buffers : List (List ℕ)) → AllLarge buffers → length piece ≤ length buffers
