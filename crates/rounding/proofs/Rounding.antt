@@ -15,14 +15,14 @@ use Rattle.wide.specs.Words.{jammed}
 use Rattle.wide.proofs.Sticky.{Jam, jam-of, jam-is, jam-jam, jam-pos, jam-lt}
 use Rattle.rounding.specs.declared.Direction.{Direction}
 use Rattle.rounding.specs.declared.Direction.the-variants.{Nearest}
-use Rattle.rounding.specs.Rounding.{whole, bounded, roundTo}
+use Rattle.rounding.specs.Rounding.{whole, bounded, roundTo, NearestIsRound}
 use Rattle.rounding.specs.Machine.{packed, normalBits, Stands}
 use Rattle.rounding.proofs.Place.{Place, under, place, Sits, sits, sits-div, sits-same, jam-sits, wholeAt, whole-at, whole-ge, whole-le}
 use Rattle.rounding.proofs.Pattern.{size-exact, units-bits}
 
 -- ---- to nearest, it is the logic's own rounding
 
-pub nearest-is-round : (f : Format) (s : Bool) (num den : ℕ) → roundTo Nearest f s num den ≡ round f s num den
+pub nearest-is-round : NearestIsRound
 unfolding roundTo
 nearest-is-round f s num den = unbounded (units f s (whole Nearest s n (den * 2 ^ (size (n / den) - prec f))) (size (n / den) - prec f)) ∙ sym (round-is f s num den)
   where

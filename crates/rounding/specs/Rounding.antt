@@ -1,11 +1,11 @@
 -- Rounding in a direction: IEEE 754-2019 4.3, over the floats and formats of lib.Ieee. Definitions only.
 -- An exact number is a sign (true: negative) and a size, the fraction num / den with den above 0.
--- To nearest, `roundTo` is `lib.Ieee.round`: `nearest-is-round` of proofs/Rounding.antt shows it.
 use Prim.Native.Nat.{ℕ, suc, _-_, _*_, _/_, _%_, _^_, compare}
+use mathlib.Core.Path.{_≡_}
 use mathlib.Core.Bool.{Bool, cond}
 use lib.Dec.{eqb}
 use lib.IntN.{pos}
-use lib.Ieee.{Float, nan, inf, fin, Format, prec, emax, low, size, nearest, units}
+use lib.Ieee.{Float, nan, inf, fin, Format, prec, emax, low, size, nearest, units, round}
 use Rattle.rounding.specs.declared.Direction.{Direction}
 use Rattle.rounding.specs.declared.Direction.the-variants.{Nearest, TowardZero, Up, Down}
 
@@ -44,3 +44,7 @@ roundTo d f s num den =
     let n = num * 2 ^ low f in
     let k = size (n / den) - prec f in
     bounded d f (units f s (whole d s n (den * 2 ^ k)) k)
+
+-- to nearest it is lib.Ieee's own (`nearest-is-round` of proofs/Rounding.antt)
+abbrev pub NearestIsRound : Type 0
+NearestIsRound = (f : Format) (s : Bool) (num den : ℕ) → roundTo Nearest f s num den ≡ round f s num den
