@@ -30,6 +30,7 @@ impl<'a> Answer<'a> {
         self.bytes
     }
 
+    /// Why there are no results.
     pub fn refusal(self) -> Option<Refusal> {
         Refusal::from_number(self.bytes[HEAD - 1])
     }

@@ -1,4 +1,4 @@
-//! The functions and structs of include/weigher.h. Nothing checks these declarations against the archive's side but the tests.
+//! The functions and structs of include/weigher.h. Only the tests hold these declarations to the archive.
 
 use crate::State;
 use std::mem::{offset_of, size_of};

@@ -4,13 +4,13 @@ use std::io::{self, ErrorKind, Read, Write};
 /// A stream that is being answered: it takes pieces of any size and gives the answers to the frames that end in each.
 ///
 /// ```
-/// use weigher::{Refusal, Stream};
+/// use weigher::Stream;
 /// let mut stream = Stream::new();
 /// for piece in [[0, 10, 1, 1, 0xc0, 0x4b], [0, 0, 0, 0, 0, 0], [0, 0, 0, 2, 9, 1]] {
 ///     for answer in stream.feed(&piece) {
 ///         match answer.results() {
 ///             Ok(results) => assert!(results.eq([-1.0])),
-///             Err(refusal) => println!("refused: {refusal}"),
+///             Err(refusal) => println!("refused: {refusal}"), // by 1, and then by 3
 ///         }
 ///     }
 /// }
