@@ -105,11 +105,17 @@ static void check_refusals(void)
     check_refused(weigher_fresh(), WEIGHER_ANSWER_ROOM - 1, WEIGHER_SMALL_BUFFER);
 }
 
-static void check_fresh(void)
+/* The state for the first bytes of the frame. */
+static weigher_state state_of(size_t count)
 {
-    weigher_state zeros;
-    memset(&zeros, 0, sizeof zeros);
-    CHECK(same(weigher_fresh(), zeros));
+    weigher_state state;
+    memset(&state, 0, sizeof state);
+    state.frame.count = count;
+    state.frame.hi = count > 0 ? frame[0] : 0;
+    state.frame.lo = count > 1 ? frame[1] : 0;
+    if (count > 2)
+        memcpy(state.frame.body, frame + 2, count - 2);
+    return state;
 }
 
 /* The frame, cut at a place, and closed there. */
@@ -119,7 +125,7 @@ static void check_cut(size_t cut)
     memcpy(piece, frame, sizeof frame);
     weigher_taken taken = weigher_take(weigher_fresh(), piece, cut, buffer, WEIGHER_ANSWER_ROOM);
     CHECK(taken.used == cut && taken.len == 0 && taken.refusal == 0);
-    CHECK(taken.state.frame.count == cut && untouched(buffer, WEIGHER_ANSWER_ROOM));
+    CHECK(same(taken.state, state_of(cut)) && untouched(buffer, WEIGHER_ANSWER_ROOM));
     weigher_closed closed = weigher_close(taken.state, buffer, WEIGHER_ANSWER_ROOM);
     CHECK(same(closed.state, weigher_fresh()) && untouched(buffer + closed.len, WEIGHER_ANSWER_ROOM - closed.len));
     CHECK(cut == 0 ? closed.len == 0 && closed.refusal == 0 : closed.len == 4 && closed.refusal == WEIGHER_UNFINISHED);
@@ -189,7 +195,7 @@ static void check_screening(void)
 
 int main(void)
 {
-    check_fresh();
+    CHECK(same(weigher_fresh(), state_of(0)));
     check_refusals();
     for (size_t cut = 0; cut < sizeof frame; cut++)
         check_cut(cut);

@@ -110,6 +110,29 @@ fn every_cut() {
     }
 }
 
+/// The length bytes and the body so far stand at their places, and all others hold 0.
+#[test]
+fn what_a_state_holds() {
+    let mut frame = vec![1, 2, 1, 1];
+    frame.extend((0..256).map(|i| (i % 251) as u8));
+    for count in 0..frame.len() {
+        let mut stream = Stream::new();
+        assert_eq!(stream.feed(&frame[..count]).count(), 0);
+        let mut body = [0; LONGEST_BODY];
+        let filled = count.saturating_sub(2);
+        body[..filled].copy_from_slice(&frame[count - filled..count]);
+        let byte = |place: usize| if place < count { frame[place] } else { 0 };
+        let (hi, lo) = (byte(0), byte(1));
+        let expected = PartialFrame {
+            count,
+            hi,
+            lo,
+            body,
+        };
+        assert_eq!(stream.state().frame, expected, "{count}");
+    }
+}
+
 #[test]
 fn the_recorded_stream() {
     for size in [1, 7, 512, 65536, RECORDED.len()] {
