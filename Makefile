@@ -45,7 +45,8 @@ constants:
 # Rust source is too.
 compare: archive program
 	@if command -v rustc >/dev/null; then \
-	    rt staticlib fast_fused_c && compare/build.sh && target/compare/compare run 1 && target/compare/compare streams 2 && target/compare/compare calls 10; \
+	    rt staticlib fast_fused_c && compare/build.sh && target/compare/compare run 1 && \
+	    target/compare/compare streams 2 && target/compare/compare calls 10; \
 	else \
 	    echo "rustc is not installed: nothing is compared"; \
 	fi

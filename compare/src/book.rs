@@ -35,7 +35,7 @@ pub struct Reply {
 
 /// The service in document 01's words: the state that it was left in, and the book whose bytes leave that state, where one does.
 pub struct Service<'a> {
-    pub state: State,
+    state: State,
     pub book: Option<Book>,
     operations: &'a Operations,
 }
