@@ -105,11 +105,11 @@ unfolding isNan
 number (fin s m e) t = tt
 
 -- ---- the theorem
-pub error-is : (a b ah bh hi : Float) (x y : ℕ) → ofBits binary64 x ≡ a → ofBits binary64 y ≡ b → Middle (fieldOf x) → Middle (fieldOf y) → hi ≡ mul binary64 a b → ah ≡ ofBits binary64 (highHalf x) → bh ≡ ofBits binary64 (highHalf y)
+pub error-is : {a b ah bh hi : Float} (x y : ℕ) → ofBits binary64 x ≡ a → ofBits binary64 y ≡ b → Middle (fieldOf x) → Middle (fieldOf y) → hi ≡ mul binary64 a b → ah ≡ ofBits binary64 (highHalf x) → bh ≡ ofBits binary64 (highHalf y)
     → (remainderOf binary64 a b ah bh hi ≡ fma a b (neg hi)) × T (not (isNan (remainderOf binary64 a b ah bh hi)))
-error-is a b ah bh hi x y ea eb p q e g h =
-    let X = half-of a x ea p in
-    let Y = half-of b y eb q in
+error-is {a} {b} {ah} {bh} {hi} x y ea eb p q e g h =
+    let X = split a x ea p in
+    let Y = split b y eb q in
     let w = place x + place y - 1074 in
     let o : place x + place y ≡ w + 1074 = omega arith in
     let room : w + 108 ≤ 2098 = omega arith in
@@ -117,11 +117,14 @@ error-is a b ah bh hi x y ea eb p q e g h =
     let nb = has-finite b (signOf y) (significand y * 2 ^ place y) (2 ^ 1074) (Y .value) in
     let nh = neg-finite (mul binary64 a b) (hi-finite binary64 refl w o room X Y) in
     let d = dekker binary64 refl w o room X Y in
-    let n : remainderOf binary64 a b ah bh hi ≡ remainderOf binary64 a b (ofBits binary64 (highHalf x)) (ofBits binary64 (highHalf y)) (mul binary64 a b) = λ i. remainderOf binary64 a b (g i) (h i) (e i) in
-    (n ∙ d .0 ∙ sym (fused-nearest a b (neg (mul binary64 a b)) na nb nh) ∙ ap (λ (z : Float). fma a b (neg z)) (sym e), number (remainderOf binary64 a b ah bh hi) (subst (λ (z : Float). T (finite z)) (sym n) (d .1)))
+    let n : remainderOf binary64 a b ah bh hi ≡ remainderOf binary64 a b (ofBits binary64 (highHalf x)) (ofBits binary64 (highHalf y)) (mul binary64 a b) = λ i. remainderOf binary64 a b (g i) (h i) (e i) in (
+      n ∙ d .0 ∙ sym (fused-nearest a b (neg (mul binary64 a b)) na nb nh) ∙ ap (λ (z : Float). fma a b (neg z)) (sym e),
+      number (remainderOf binary64 a b ah bh hi) (subst (λ (z : Float). T (finite z)) (sym n) (d .1)),
+    )
   where
-    half-of : (z : Float) (x : ℕ) → ofBits binary64 x ≡ z → Middle (fieldOf x) → HighHalf binary64 (place x) (signOf x) z (ofBits binary64 (highHalf x)) (significand x) (cut x)
-    half-of z x f m = subst (λ (v : Float). HighHalf binary64 (place x) (signOf x) v (ofBits binary64 (highHalf x)) (significand x) (cut x)) f (high-half x m)
+    split : (z : Float) (x : ℕ) → ofBits binary64 x ≡ z → Middle (fieldOf x) → HighHalf binary64 (place x) (signOf x) z (ofBits binary64 (highHalf x)) (significand x) (cut x)
+    split z x f m = subst (λ (v : Float). HighHalf binary64 (place x) (signOf x) v (ofBits binary64 (highHalf x)) (significand x) (cut x)) f (high-half x m)
 
-pub back : (r z : Float) → fits binary64 r ≡ true → r ≡ z → ofBits binary64 (toBits binary64 r) ≡ z
-back r z f e = ofBits-toBits binary64 r (subst T (sym f) tt) ∙ e
+-- the pattern that is made of a result
+pub back : {r z : Float} → fits binary64 r ≡ true → r ≡ z → ofBits binary64 (toBits binary64 r) ≡ z
+back {r} {z} f e = ofBits-toBits binary64 r (subst T (sym f) tt) ∙ e

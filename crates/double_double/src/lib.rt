@@ -110,12 +110,5 @@ fn error_bits(a: f64, b: f64, hi: f64) -> u64
             }
         }
     }
-    fused_error(a, b, hi)
-}
-
-// The same by a fused multiply-add, for all operands.
-fn fused_error(a: f64, b: f64, hi: f64) -> u64
-    ensures { λ r. ⌜ bits r ≡ fma a b (neg hi) ⌝ }
-{
     math::fma_bits(math::pattern(a), math::pattern(b), math::pattern(-hi))
 }

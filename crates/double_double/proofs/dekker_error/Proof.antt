@@ -1,4 +1,4 @@
--- `double_double::dekker_error` meets its contract: Halves has the theorem. Assumes nothing.
+-- `double_double::dekker_error` meets its contract: Split has the theorem. Assumes nothing.
 use borrow.Author.Needs.{needs}
 use Rattle.double_double.proofs.Split.{error-is}
 use Rattle.double_double.proofs.dekker_error.Statement.{statement}
@@ -7,9 +7,8 @@ use Rattle.double_double.proofs.dekker_error.Tie as tie
 returns : tie.Need-returns
 returns c =
     let s = c .before .before in
-    let a = s .args in
     let p = s .pre in
-    error-is (a .a) (a .b) (c .before .high-half .result) (c .high-half2 .result) (a .hi) (a .x) (a .y) (p .0) (p .1) (p .2) (p .3) (p .4) (c .before .high-half .ensures) (c .high-half2 .ensures)
+    error-is (s .args .x) (s .args .y) (p .0) (p .1) (p .2) (p .3) (p .4) (c .before .high-half .ensures) (c .high-half2 .ensures)
 
 pub dekker-error-spec : {M : Type 1} → statement M
 dekker-error-spec = tie.close (tie.spec (λ c κs. search needs) (λ c κs. search needs) returns)

@@ -3,6 +3,7 @@ use mathlib.Core.Path.{refl, subst}
 use Prim.Native.Nat.{ℕ}
 use borrow.Author.Needs.{needs}
 use Rattle.ieee754.specs.Machine.{Middle}
+use Rattle.double_double.proofs.Chains.{link}
 use Rattle.double_double.proofs.Split.{factors, back}
 use Rattle.double_double.proofs.error_bits.Statement.{statement}
 use Rattle.double_double.proofs.error_bits.Tie as tie
@@ -19,8 +20,8 @@ dekker-error-requires c κs =
     let c3 = c2 .before in
     let c4 = c3 .before .before in
     let s = c4 .before .before in (
-      back (s .args .a) _ (s .good .0 .1) refl,
-      back (s .args .b) _ (s .good .1 .0 .1) refl,
+      back (s .good .0 .1) refl,
+      back (s .good .1 .0 .1) refl,
       subst (λ (x : ℕ). Middle x) (c4 .field .ensures) (c3 .before .is-middle .ensures (c3 .if2 .taken)),
       subst (λ (x : ℕ). Middle x) (c2 .field2 .ensures) (c .before .is-middle2 .ensures (c .if3 .taken)),
       s .pre,
@@ -30,7 +31,10 @@ float-to-bits-result : tie.Need-float-to-bits-result
 float-to-bits-result c = c .dekker-error .ensures .1
 
 returns : tie.Need-returns
-returns c = back (c .dekker-error .result) _ (c .dekker-error .ok) (c .dekker-error .ensures .0)
+returns c = back (c .dekker-error .ok) (c .dekker-error .ensures .0)
+
+returns-2 : tie.Need-returns-2
+returns-2 c = link (c .before .before .before .pattern .ensures) (c .before .before .pattern2 .ensures) (c .before .pattern3 .ensures) (c .fma-bits .ensures)
 
 pub error-bits-spec : {M : Type 1} → statement M
 error-bits-spec =
@@ -46,4 +50,7 @@ error-bits-spec =
     float-to-bits-result
     returns
     (λ c κs. search needs)
-    (λ c. search needs))
+    (λ c κs. search needs)
+    (λ c κs. search needs)
+    (λ c κs. search needs)
+    returns-2)
