@@ -8,7 +8,7 @@ use native.Mathlib.Omega.{arith}
 use mathlib.Core.Bool.{Bool}
 use lib.Dec.{lit<, lit≤}
 use lib.Pow.{pow-add, pow-pos, pow-mono, shr-lt}
-use lib.Ieee.{Float, nan, inf, fin, Format, binary64, prec, low, size, units, round, toBits}
+use lib.Ieee.{Float, nan, inf, fin, Format, binary64, prec, low, size, units, toBits}
 use lib.Ieee.Digits.{size-le}
 use lib.Ieee.Fits.{round-is}
 use Rattle.wide.specs.Words.{jammed}
