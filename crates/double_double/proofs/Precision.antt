@@ -1,8 +1,8 @@
 -- A whole number rounded to p binary digits (`toDigits`), and the numbers that p digits write (`Representable`). Three facts carry error-free sums and products:
 -- a representable number is kept, no representable number is nearer, and a multiple of 2 ^ j rounds to one. Assumes nothing.
-use mathlib.Core.Path.{_≡_, sym, ap, _∙_, subst}
+use mathlib.Core.Path.{_≡_, sym, subst}
 use mathlib.Core.Logic.{inl, inr}
-use Prim.Native.Nat.{ℕ, suc, _+_, _-_, _*_, _^_, _≤_, _<_, _∣_}
+use Prim.Native.Nat.{ℕ, _+_, _-_, _*_, _^_, _≤_, _<_, _∣_}
 use native.Mathlib.Nat.{le-refl, lt-of-lt-of-le, lt-of-le-of-lt, dvd-refl, dvd-zero, one-dvd, not-le-of-lt, lt-of-not-le, mul-dvd-mul-right, eq-or-lt-of-le}
 use native.Mathlib.Omega.{arith}
 use lib.Pow.{pow-add, pow-pos, pow-mono, pow-lt, shl-lt}
