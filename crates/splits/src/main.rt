@@ -1,6 +1,8 @@
 // Cuts the stream of standard input in two at every place, and then at random, and hands the pieces to take one after another, with
-// refused calls in between. A run fails where its answers are not those of the whole stream, handed on at once, and where a refused call
-// gives another number or changes anything. The stream has to end inside a frame. Prints a line for each run that fails, and the counts.
+// refused calls in between. A run fails where its answers are not those of the whole stream, handed on at once, where the state after a
+// piece is not document 01's for the bytes of the present frame, and where a refused call gives another number or changes anything. The
+// stream has to end inside a frame. Prints a line for each run that fails, and the counts.
+use delivery::HandedOn;
 use libc::STDOUT_FILENO;
 use service::Closed;
 use service::State;
@@ -14,6 +16,8 @@ const BUFFER: usize = 516;
 
 const SMALL_BUFFER: usize = 515;
 
+const LONGEST_BODY: usize = 514;
+
 // What an answer buffer holds before a call.
 const FILL: u8 = 165;
 
@@ -24,11 +28,13 @@ const RANDOM_RUNS: usize = 300;
 
 const LONGEST_PIECE: usize = 64;
 
-// The service's state, how many bytes of the wanted answers have come, or FAILED, and how many bytes the last take used.
+// The service's state, how many bytes of the wanted answers have come, or FAILED, how many bytes the last take used, and where in the
+// stream the present frame starts.
 struct Run {
     state: State,
     matched: usize,
     used: usize,
+    start: usize,
 }
 
 // ---- what is compared
@@ -90,26 +96,69 @@ fn is_same(a: State, b: State) -> bool {
     x.count == y.count && x.hi == y.hi && x.lo == y.lo && check::same(&x_body, &y_body)
 }
 
+// ---- the state's bytes
+
+// The byte at a place, or 0.
+fn byte_at(bytes: &[u8], at: usize) -> u8 {
+    if at < bytes.len() { bytes[at] } else { 0 }
+}
+
+// Whether a body holds the bytes behind the length bytes, where it is kept, and 0 at every other place.
+fn is_body_of(body: &[u8; LONGEST_BODY], bytes: &[u8], kept: bool) -> bool {
+    let mut i = 0;
+    while i < LONGEST_BODY {
+        let wanted = if kept { byte_at(bytes, i + 2) } else { 0 };
+        if body[i] != wanted {
+            return false;
+        }
+        i += 1;
+    }
+    true
+}
+
+// Whether a state is document 01's for the bytes of the present frame that have come.
+fn is_state_of(state: State, bytes: &[u8]) -> bool {
+    let frame = state.frame;
+    let body = frame.body;
+    let hi = byte_at(bytes, 0);
+    let lo = byte_at(bytes, 1);
+    let length = hi as usize * 256 + lo as usize;
+    frame.count == bytes.len()
+        && frame.hi == hi
+        && frame.lo == lo
+        && is_body_of(&body, bytes, 2 <= length && length <= LONGEST_BODY)
+}
+
+// Whether the state is the one for the bytes that have come, of which the present frame has the last.
+fn is_held(run: Run, come: &[u8]) -> bool {
+    let start = run.start;
+    start <= come.len() && is_state_of(run.state, &come[start..])
+}
+
 // ---- calls that change nothing
 
-// Whether both calls returned this number, and neither used a byte or answered.
-fn are_idle(taken: Taken, closed: Closed, number: u8) -> bool {
+// Whether the calls returned this number, and none used a byte or answered.
+fn are_idle(taken: Taken, handed: HandedOn, closed: Closed, number: u8) -> bool {
     taken.refusal == number
         && taken.used == 0
         && taken.len == 0
+        && handed.refusal == number
+        && handed.used == 0
+        && handed.len == 0
         && closed.refusal == number
         && closed.len == 0
 }
 
-// Whether take and then close, with a buffer of this size, return this number and leave state and buffer as they were.
+// Whether take, hand_on and then close, with a buffer of this size, return this number and leave state and buffer as they were.
 fn change_nothing(state: State, piece: &[u8], size: usize, number: u8) -> bool
     requires { ⌜ size ≤ 516 ⌝ }
 {
     let mut space = [FILL; BUFFER];
     let buffer: &mut [u8] = &mut space[..size];
     let taken = service::take(state, piece, buffer);
-    let closed = service::close(taken.state, buffer);
-    are_idle(taken, closed, number) && is_same(closed.state, state) && is_filled(buffer)
+    let handed = delivery::hand_on(taken.state, piece, buffer);
+    let closed = service::close(handed.state, buffer);
+    are_idle(taken, handed, closed, number) && is_same(closed.state, state) && is_filled(buffer)
 }
 
 // A state that no bytes short of a whole frame leave, made from one that some do: with as many bytes as the longest frame, with a byte at
@@ -153,31 +202,43 @@ fn take_next(run: Run, piece: &[u8], wanted: &[u8]) -> Run
     let matched = matched_after(run.matched, &buffer, taken.len, taken.refusal, wanted);
     let state = taken.state;
     let used = taken.used;
+    let start = run.start;
     let rest = piece.len();
     if used == 0 || rest < used {
         return Run {
             state,
             matched: FAILED,
             used: rest,
+            start,
         };
     }
     Run {
         state,
         matched,
         used,
+        start,
     }
 }
 
-// Refused calls, and then the piece, taken to its end.
-fn hand_over(run: Run, piece: &[u8], wanted: &[u8], word: usize) -> Run {
+// Refused calls, and then the piece, taken to its end: the bytes from a place on of those that have come with it.
+fn hand_over(run: Run, come: &[u8], from: usize, wanted: &[u8], word: usize) -> Run
+    requires { ⌜ from ≤ length (now come) ⌝ }
+{
     let mut run = run;
-    if !refuses(run.state, piece, word) {
+    if !refuses(run.state, &come[from..], word) {
         run.matched = FAILED;
     }
-    let mut at = 0;
-    while at < piece.len() {
-        run = take_next(run, &piece[at..], wanted);
+    let mut at = from;
+    while at < come.len() {
+        let matched = run.matched;
+        run = take_next(run, &come[at..], wanted);
         at += run.used;
+        if matched < run.matched {
+            run.start = at;
+        }
+    }
+    if !is_held(run, come) {
+        run.matched = FAILED;
     }
     run
 }
@@ -222,13 +283,14 @@ fn passes(stream: &[u8], wanted: &[u8], number: usize) -> bool
         state: service::fresh(),
         matched: 0,
         used: 0,
+        start: 0,
     };
     let mut word = number;
     let mut at = 0;
     while at < stream.len() {
         word = next_random(word);
         let end = piece_end(number, word, at, stream.len());
-        run = hand_over(run, &stream[at..end], wanted, word);
+        run = hand_over(run, &stream[..end], at, wanted, word);
         at = end;
     }
     finish(run, wanted)

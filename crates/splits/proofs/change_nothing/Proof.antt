@@ -14,6 +14,9 @@ slice-aggregate-buffer c = simp length-take (omega arith)
 take-requires : tie.Need-take-requires
 take-requires c κs = search needs
 
+hand-on-requires : tie.Need-hand-on-requires
+hand-on-requires c κs = search needs
+
 close-requires : tie.Need-close-requires
 close-requires c κs = search needs
 
@@ -39,6 +42,7 @@ change-nothing-spec =
     array-borrow-prefix-space
     slice-aggregate-buffer
     take-requires
+    hand-on-requires
     close-requires
     are-idle-requires
     is-same-requires

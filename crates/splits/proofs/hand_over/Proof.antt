@@ -6,10 +6,19 @@ use Rattle.splits.proofs.hand_over.Statement.{statement}
 use Rattle.splits.proofs.hand_over.Tie as tie
 
 abbrev Inv-loop : tie.InvT-loop
-Inv-loop piece wanted word run₀ at₀ run at = at ≤ length piece
+Inv-loop come from wanted word run₀ at₀ run at = at ≤ length come
 
 abbrev μ-loop : tie.MeasureT-loop
-μ-loop piece wanted word run₀ at₀ run at = length piece - at
+μ-loop come from wanted word run₀ at₀ run at = length come - at
+
+sub-refuses : tie.Need-sub-refuses Inv-loop μ-loop
+sub-refuses c = search needs
+
+part-refuses-start : tie.Need-part-refuses-start Inv-loop μ-loop
+part-refuses-start c = search needs
+
+part-refuses-end : tie.Need-part-refuses-end Inv-loop μ-loop
+part-refuses-end c = search needs
 
 refuses-requires : tie.Need-refuses-requires Inv-loop μ-loop
 refuses-requires c κs = search needs
@@ -38,8 +47,20 @@ loop-less c = search needs
 loop-again : tie.Need-loop-again Inv-loop μ-loop
 loop-again c = search needs
 
+loop-less-2 : tie.Need-loop-less-2 Inv-loop μ-loop
+loop-less-2 c = search needs
+
+loop-again-2 : tie.Need-loop-again-2 Inv-loop μ-loop
+loop-again-2 c = search needs
+
+is-held-requires : tie.Need-is-held-requires Inv-loop μ-loop
+is-held-requires c κs = search needs
+
 returns : tie.Need-returns Inv-loop μ-loop
 returns c = search needs
+
+returns-2 : tie.Need-returns-2 Inv-loop μ-loop
+returns-2 c = search needs
 
 pub hand-over-spec : {M : Type 1} → statement M
 hand-over-spec =
@@ -47,6 +68,9 @@ hand-over-spec =
     (tie.spec
     Inv-loop
     μ-loop
+    sub-refuses
+    part-refuses-start
+    part-refuses-end
     refuses-requires
     loop-holds
     sub-take-next
@@ -56,4 +80,8 @@ hand-over-spec =
     add-at
     loop-less
     loop-again
-    returns)
+    loop-less-2
+    loop-again-2
+    is-held-requires
+    returns
+    returns-2)

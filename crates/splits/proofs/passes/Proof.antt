@@ -1,6 +1,7 @@
 -- `splits::passes` is safe and ends: each piece has a byte at least. Assumes nothing.
 use Prim.Native.Nat.{_≤_, _<_, _-_}
-use lib.ListN.{length}
+use native.Mathlib.Omega.{arith}
+use lib.ListN.{length, length-take}
 use borrow.Author.Needs.{needs}
 use Rattle.splits.proofs.passes.Statement.{statement}
 use Rattle.splits.proofs.passes.Tie as tie
@@ -23,17 +24,11 @@ next-random-requires c κs = search needs
 piece-end-requires : tie.Need-piece-end-requires Inv-loop μ-loop
 piece-end-requires c κs = search needs
 
-sub-hand-over : tie.Need-sub-hand-over Inv-loop μ-loop
-sub-hand-over c = search needs
-
-part-hand-over-start : tie.Need-part-hand-over-start Inv-loop μ-loop
-part-hand-over-start c = search needs
-
-part-hand-over-end : tie.Need-part-hand-over-end Inv-loop μ-loop
-part-hand-over-end c = search needs
+slice-aggregate-hand-over : tie.Need-slice-aggregate-hand-over Inv-loop μ-loop
+slice-aggregate-hand-over c = simp length-take (omega arith)
 
 hand-over-requires : tie.Need-hand-over-requires Inv-loop μ-loop
-hand-over-requires c κs = search needs
+hand-over-requires c κs = simp length-take (omega arith)
 
 loop-less : tie.Need-loop-less Inv-loop μ-loop
 loop-less c = search needs
@@ -57,9 +52,7 @@ passes-spec =
     loop-holds
     next-random-requires
     piece-end-requires
-    sub-hand-over
-    part-hand-over-start
-    part-hand-over-end
+    slice-aggregate-hand-over
     hand-over-requires
     loop-less
     loop-again
