@@ -16,6 +16,7 @@ mod recorded;
 mod run;
 mod rust;
 mod score;
+mod screenings;
 mod serve;
 mod service;
 mod source;
@@ -32,7 +33,7 @@ use std::process::ExitCode;
 
 const USAGE: &str = "usage: compare run [MILLIONS] | compare mpfr [THOUSANDS] | compare streams [THOUSANDS] | compare calls [THOUSANDS]
        compare bench | compare throughput [MEGABYTES] | compare serve [weigher] | compare vectors | compare score-vectors
-       compare stream | compare short-stream | compare random-stream SEED | compare answers";
+       compare screening-vectors | compare stream | compare short-stream | compare random-stream SEED | compare answers";
 
 fn main() -> ExitCode {
     let words: Vec<String> = env::args().skip(1).collect();
@@ -56,6 +57,7 @@ fn main() -> ExitCode {
         }
         ["vectors"] => written(vectors::write()),
         ["score-vectors"] => written(vectors::write_scores()),
+        ["screening-vectors"] => written(screenings::write()),
         ["stream"] => written(recorded::write_stream()),
         ["short-stream"] => written(recorded::write_short_stream()),
         ["random-stream", seed] => {
