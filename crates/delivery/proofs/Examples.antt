@@ -32,9 +32,13 @@ pub refusals :
 unfolding handOn deliveryOf isGood bookOf isLeft bytesIn kept whole keptBytes placesOf
 refusals = (refl, refl, refl, refl, refl)
 
--- two frames of length 0 and half a length: with room for one answer, and for two and what comes behind them
+-- a frame of length 0, one of another version, and half a length: with room for one answer, for two, and for what comes behind them
+abbrev piece : List ℕ
+piece = 0 ∷ 0 ∷ 0 ∷ 2 ∷ 9 ∷ 1 ∷ 3 ∷ []
+
 pub pieces :
-    (handOn (stateOf 0 0 0) (0 ∷ 0 ∷ 0 ∷ 0 ∷ 3 ∷ []) (nines 516) ≡ replied 2 4 0 (stateOf 0 0 0) (0 ∷ 2 ∷ 1 ∷ 1 ∷ nines 512))
-    × (handOn (stateOf 0 0 0) (0 ∷ 0 ∷ 0 ∷ 0 ∷ 3 ∷ []) (nines 524) ≡ replied 5 8 0 (stateOf 1 3 0) (0 ∷ 2 ∷ 1 ∷ 1 ∷ 0 ∷ 2 ∷ 1 ∷ 1 ∷ nines 516))
+    (handOn (stateOf 0 0 0) piece (nines 519) ≡ replied 2 4 0 (stateOf 0 0 0) (0 ∷ 2 ∷ 1 ∷ 1 ∷ nines 515))
+    × (handOn (stateOf 0 0 0) piece (nines 520) ≡ replied 6 8 0 (stateOf 0 0 0) (0 ∷ 2 ∷ 1 ∷ 1 ∷ 0 ∷ 2 ∷ 1 ∷ 3 ∷ nines 512))
+    × (handOn (stateOf 0 0 0) piece (nines 524) ≡ replied 7 8 0 (stateOf 1 3 0) (0 ∷ 2 ∷ 1 ∷ 1 ∷ 0 ∷ 2 ∷ 1 ∷ 3 ∷ nines 516))
 unfolding handOn deliveryOf isGood bookOf isLeft bytesIn kept whole keptBytes placesOf refusalTo answerOf answerTo
-pieces = (refl, refl)
+pieces = (refl, refl, refl)
