@@ -41,11 +41,12 @@ program:
 constants:
 	tests/constants.sh
 
-# Edge cases and a million random ones of each operation, and lists of calls, where rustc is there; the score and random streams where the
-# Rust source is too.
+# Edge cases and a million random ones of each operation, and lists of calls, where rustc is there; the score, its recorded vectors and
+# random streams where the Rust source is too.
 compare: archive program
 	@if command -v rustc >/dev/null; then \
 	    rt staticlib fast_fused_c && compare/build.sh && target/compare/compare run 1 && \
+	    cat crates/exp2m1_vectors/stdin crates/phase_vectors/stdin | target/compare/compare check-score-vectors && \
 	    target/compare/compare streams 2 && target/compare/compare calls 10; \
 	else \
 	    echo "rustc is not installed: nothing is compared"; \

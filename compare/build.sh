@@ -32,7 +32,7 @@ compile() {
 
 compile "$@" --crate-type rlib --crate-name ffi -L native=target/staticlib --out-dir "$out" compare/ffi.rs
 
-# The Rust exp2m1 over each fma, as a crate of its own.
+# The Rust exp2m1 over each fma, and two with the machine's that keep calls, as crates of their own.
 exp2m1() {
     compile -A unexpected_cfgs --cfg "fma=\"$1\"" \
         --crate-type rlib --crate-name "exp2m1_$1" --extern ffi --out-dir "$out" compare/libm/lib.rs
@@ -43,11 +43,12 @@ if [ -f "$source/libm/src/math/exp2m1.rs" ]; then
     exp2m1 machine
     exp2m1 weigher
     exp2m1 recorded
+    exp2m1 counted
     if [ $# -gt 0 ]; then
         exp2m1 musl
         set -- "$@" --extern exp2m1_musl
     fi
-    set -- "$@" --cfg exp2m1 --extern exp2m1_machine --extern exp2m1_weigher --extern exp2m1_recorded
+    set -- "$@" --cfg exp2m1 --extern exp2m1_machine --extern exp2m1_weigher --extern exp2m1_recorded --extern exp2m1_counted
 fi
 
 if grep -qs mpfr_exp2m1 /usr/include/mpfr.h; then

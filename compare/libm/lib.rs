@@ -10,12 +10,11 @@ macro_rules! force_eval {
     };
 }
 
+pub mod calls;
 #[macro_use]
 mod support;
-#[path = "../../target/compare/source/libm/src/math/exp2m1.rs"]
-#[rustfmt::skip]
 #[allow(warnings)]
-mod exp2m1;
+pub mod exp2m1;
 mod generic;
 #[path = "../../target/compare/source/libm/src/math/ldexp.rs"]
 #[rustfmt::skip]
@@ -26,13 +25,15 @@ mod ldexp;
 #[allow(warnings)]
 mod scalbn;
 
+use calls::{Call, keep};
 pub use exp2m1::exp2m1;
 use ldexp::ldexp;
 use scalbn::{scalbn, scalbnf};
 
 /// Stands in for fma.rs: the machine's.
-#[cfg(fma = "machine")]
+#[cfg(any(fma = "machine", fma = "recorded", fma = "counted"))]
 fn fma(x: f64, y: f64, z: f64) -> f64 {
+    keep(Call::Fma(x, y, z));
     x.mul_add(y, z)
 }
 
@@ -46,19 +47,6 @@ fn fma(x: f64, y: f64, z: f64) -> f64 {
 #[cfg(fma = "musl")]
 use ffi::musl_fma as fma;
 
-/// Stands in for fma.rs: the machine's, which keeps its operands.
-#[cfg(fma = "recorded")]
-fn fma(x: f64, y: f64, z: f64) -> f64 {
-    CALLS.with_borrow_mut(|calls| calls.push((x.to_bits(), y.to_bits(), z.to_bits())));
-    x.mul_add(y, z)
-}
-
-#[cfg(fma = "recorded")]
-thread_local! {
-    /// The operands of each call of fma so far.
-    pub static CALLS: std::cell::RefCell<Vec<(u64, u64, u64)>> = const { std::cell::RefCell::new(Vec::new()) };
-}
-
 /// Stands in for the one of fma.rs.
 fn fmaf(x: f32, y: f32, z: f32) -> f32 {
     x.mul_add(y, z)
@@ -66,6 +54,7 @@ fn fmaf(x: f32, y: f32, z: f32) -> f32 {
 
 /// Stands in for floor.rs.
 fn floor(x: f64) -> f64 {
+    keep(Call::Floor);
     x.floor()
 }
 
@@ -76,6 +65,7 @@ fn floorf(x: f32) -> f32 {
 
 /// Stands in for roundeven.rs.
 fn roundeven(x: f64) -> f64 {
+    keep(Call::RoundEven);
     x.round_ties_even()
 }
 

@@ -16,6 +16,7 @@ mod float_traits;
 mod hex_float;
 mod int_traits;
 
+use crate::calls::{Call, keep};
 use env::{Round, Status};
 pub use float_traits::Float;
 use float_traits::{f32_from_bits, f64_from_bits};
@@ -24,7 +25,9 @@ pub use hex_float::hf64;
 pub use int_traits::{CastFrom, CastInto, DInt, Int};
 
 /// Stands in for the one of support/mod.rs, a hint.
-pub fn cold_path() {}
+pub fn cold_path() {
+    keep(Call::ColdPath);
+}
 
 /// Stands in for the one of support/mod.rs.
 fn div_ceil_u32(a: u32, b: u32) -> u32 {

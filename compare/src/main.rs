@@ -21,6 +21,7 @@ mod serve;
 mod service;
 mod source;
 mod states;
+mod steps;
 mod streams;
 mod tally;
 mod throughput;
@@ -32,8 +33,9 @@ use std::io;
 use std::process::ExitCode;
 
 const USAGE: &str = "usage: compare run [MILLIONS] | compare mpfr [THOUSANDS] | compare streams [THOUSANDS] | compare calls [THOUSANDS]
-       compare bench | compare throughput [MEGABYTES] | compare serve [weigher] | compare vectors | compare score-vectors
-       compare screening-vectors | compare stream | compare short-stream | compare random-stream SEED | compare answers";
+       compare bench | compare throughput [MEGABYTES] | compare serve [weigher] | compare vectors
+       compare score-vectors | compare phase-vectors | compare check-score-vectors | compare screening-vectors
+       compare stream | compare short-stream | compare random-stream SEED | compare answers";
 
 fn main() -> ExitCode {
     let words: Vec<String> = env::args().skip(1).collect();
@@ -58,6 +60,8 @@ fn main() -> ExitCode {
         ["vectors"] => written(vectors::write()),
         ["score-vectors"] => written(vectors::write_scores()),
         ["screening-vectors"] => written(screenings::write()),
+        ["phase-vectors"] => written(vectors::write_phases()),
+        ["check-score-vectors"] => succeeds(vectors::check_scores()),
         ["stream"] => written(recorded::write_stream()),
         ["short-stream"] => written(recorded::write_short_stream()),
         ["random-stream", seed] => {

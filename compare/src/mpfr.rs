@@ -20,6 +20,9 @@ struct Number {
 
 const NEAREST: c_int = 0;
 
+/// Weights of each range for which the fast phase does not decide.
+const UNDECIDED: u64 = 20;
+
 #[link(name = "mpfr")]
 unsafe extern "C" {
     safe fn mpfr_set_emin(exponent: c_long) -> c_int;
@@ -38,8 +41,10 @@ pub fn compare(thousands: u64) -> bool {
     mpfr_set_emin(-1073);
     mpfr_set_emax(1024);
     let mut random = Random::new(5);
+    let mut edges = score::edges(1);
+    edges.extend(score::undecided(&mut random, UNDECIDED));
     let others = (0..thousands * 1000).map(|_| score::weight(&mut random));
-    let weights = score::edges(1).into_iter().chain(others);
+    let weights = edges.into_iter().chain(others);
     let answers = weights.map(|x| (Case::Score(x), exp2m1(x)));
     run::compare_answers("score beside MPFR", answers) == 0
 }

@@ -3,30 +3,44 @@
 use crate::case::Case;
 use crate::cases::{FAST_FUSED, FLOOR, FUSED, ROUND, SCALE};
 use crate::random::Random;
+use crate::steps::Reach;
 use crate::values::SPECIALS;
 use crate::{rust, score};
 
 /// Patterns on each side of a boundary or table entry of the score.
 const REACH: i64 = 1000;
 
-/// Runs the edges and so many million random cases of each operation; false where the two differ in any case.
+/// Weights of each range for which the fast phase does not decide: so many, and as many for each million cases.
+const UNDECIDED: u64 = 10;
+
+/// Runs the edges and so many million random cases of each operation; false where the two differ in any case, or too few weights reach a
+/// step of the score.
 pub fn compare(millions: u64) -> bool {
     let mut random = Random::new(2);
     let count = millions * 1_000_000;
-    let mut mismatches = 0;
+    let mut good = true;
     for operation in [FUSED, FAST_FUSED, ROUND, FLOOR, SCALE] {
         let edges = (operation.edges)(&SPECIALS).into_iter();
         let others = (0..count).map(|_| (operation.random)(&mut random));
-        mismatches += compare_operation(operation.name, edges.chain(others));
+        good &= compare_operation(operation.name, edges.chain(others)) == 0;
     }
     if rust::INSTANCES.is_empty() {
         println!("score: not compared, the Rust source was not there");
     } else {
-        let edges = score::edges(REACH).into_iter();
-        let others = (0..count).map(|_| score::weight(&mut random));
-        mismatches += compare_operation("score", edges.chain(others).map(Case::Score));
+        good &= compare_scores(&mut random, millions);
     }
-    mismatches == 0
+    good
+}
+
+fn compare_scores(random: &mut Random, millions: u64) -> bool {
+    let mut edges = score::edges(REACH);
+    edges.extend(score::undecided(random, UNDECIDED * (1 + millions)));
+    let others = (0..millions * 1_000_000).map(|_| score::weight(random));
+    let mut reach = Reach::default();
+    let weights = edges.into_iter().chain(others).inspect(|&x| reach.count(x));
+    let mismatches = compare_operation("score", weights.map(Case::Score));
+    let enough = reach.print(UNDECIDED);
+    mismatches == 0 && enough
 }
 
 fn compare_operation(name: &str, cases: impl Iterator<Item = Case>) -> u64 {

@@ -2,6 +2,11 @@
 
 use std::io;
 
+#[cfg(exp2m1)]
+use exp2m1_machine::exp2m1 as phases;
+#[cfg(exp2m1)]
+use exp2m1_recorded::calls::OPERANDS;
+
 use crate::machine;
 
 /// exp2m1 over the machine's fma, the weigher's and musl's. There is none where compare was built without the source.
@@ -13,6 +18,23 @@ pub const INSTANCES: &[(&str, fn(f64) -> f64)] = &[
     #[cfg(all(exp2m1, musl_fma))]
     ("Rust over musl's fma", exp2m1_musl::exp2m1),
 ];
+
+/// A function of exp2m1.rs by a vector's name, and its answers.
+pub type Function = (&'static str, fn(f64) -> Vec<f64>);
+
+/// The score; the phases that give a pair hi, lo, two for weights up to 1/8 in size and two for larger ones; and the tables of step 8.
+#[cfg(exp2m1)]
+pub const FUNCTIONS: &[Function] = &[
+    ("score", |x| vec![exp2m1_machine::exp2m1(x)]),
+    ("exp2m1_fast_tiny", |x| phases::fast_tiny(x).to_vec()),
+    ("polynomial_q", |x| polynomial_q(x).to_vec()),
+    ("exp_1", |x| phases::fast_power(x).to_vec()),
+    ("exp_2", |x| phases::accurate_power(x).to_vec()),
+    ("table_of_59", |x| vec![phases::accurate_tiny(x)]),
+    ("table_of_93", |x| vec![phases::accurate_wide(x)]),
+];
+#[cfg(not(exp2m1))]
+pub const FUNCTIONS: &[Function] = &[];
 
 #[cfg(exp2m1)]
 const TEXT: &str = include_str!("../../target/compare/source/libm/src/math/exp2m1.rs");
@@ -36,15 +58,31 @@ pub fn score(x: u64) -> u64 {
 /// The operands of every fma that exp2m1 calls for these weights; none where there is no instance.
 #[cfg(exp2m1)]
 pub fn fma_calls(weights: impl Iterator<Item = u64>) -> Vec<(u64, u64, u64)> {
+    OPERANDS.take();
     weights.for_each(|x| {
         exp2m1_recorded::exp2m1(f64::from_bits(x));
     });
-    exp2m1_recorded::CALLS.take()
+    let operands = OPERANDS.take().into_iter();
+    operands
+        .map(|(a, b, c)| (a.to_bits(), b.to_bits(), c.to_bits()))
+        .collect()
 }
 
 #[cfg(not(exp2m1))]
 pub fn fma_calls(_: impl Iterator<Item = u64>) -> Vec<(u64, u64, u64)> {
     Vec::new()
+}
+
+/// The pair of the accurate phase for a weight up to 1/8 in size that is no entry of its table. The Rust returns its sum; the last calls of
+/// fma, those of s_mul, have the pair: fma(a, bh, -hi), and then lo.
+#[cfg(exp2m1)]
+fn polynomial_q(x: f64) -> [f64; 2] {
+    OPERANDS.take();
+    exp2m1_recorded::exp2m1::accurate_tiny(x);
+    let [.., (_, _, minus_hi), (a, b, c)] = OPERANDS.take()[..] else {
+        panic!("{x:e}: no polynomial");
+    };
+    [-minus_hi, a.mul_add(b, c)]
 }
 
 /// x of each entry of the exception tables: the first number of each line that has three.

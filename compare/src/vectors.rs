@@ -1,12 +1,14 @@
-//! Writes the vectors of crates/ieee754_vectors, with the machine's answers, and of crates/exp2m1_vectors, with the Rust's.
+//! Writes the vectors of crates/ieee754_vectors, with the machine's answers, and of crates/exp2m1_vectors and crates/phase_vectors, with
+//! the Rust's; and checks the latter.
 
 use std::io::{self, BufWriter, Write};
 
 use crate::case::Case;
 use crate::cases::{FLOOR, FUSED, Operation, ROUND, SCALE};
 use crate::random::Random;
+use crate::steps::Reach;
 use crate::values::{CLASSES, SPECIALS};
-use crate::{rust, score};
+use crate::{machine, rust, score};
 
 /// An operation, the special values that its edges are made of, and how many random cases follow.
 const PARTS: [(Operation, &[u64], usize); 4] = [
@@ -17,7 +19,14 @@ const PARTS: [(Operation, &[u64], usize); 4] = [
 ];
 
 /// Random weights that follow the edges of the score.
-const WEIGHTS: usize = 18000;
+const WEIGHTS: usize = 15000;
+
+/// Weights of each range for which the fast phase does not decide, of which some come twice; and how many there must be.
+const UNDECIDED: u64 = 200;
+const LEAST: u64 = 190;
+
+/// Weights of each range for which the pairs of the phases are written.
+const PAIRS: usize = 20;
 
 pub fn write() -> io::Result<()> {
     let mut random = Random::new(1);
@@ -33,12 +42,85 @@ pub fn write() -> io::Result<()> {
 pub fn write_scores() -> io::Result<()> {
     rust::require()?;
     let mut random = Random::new(4);
-    let mut weights = score::edges(1);
+    let mut weights = score::edges(2);
+    weights.extend(score::undecided(&mut random, UNDECIDED));
     weights.extend((0..WEIGHTS).map(|_| score::weight(&mut random)));
     weights.sort_unstable();
     weights.dedup();
-    let cases: Vec<Case> = weights.into_iter().map(Case::Score).collect();
-    write_cases(&cases)
+    write_lines("score", &weights)
+}
+
+/// The pairs of the phases, and the replies of the tables of step 8.
+pub fn write_phases() -> io::Result<()> {
+    rust::require()?;
+    let mut random = Random::new(7);
+    let tiny = score::tiny_weights(&mut random, PAIRS);
+    let wide = score::wide_weights(&mut random, PAIRS);
+    write_lines("exp2m1_fast_tiny", &tiny)?;
+    write_lines("polynomial_q", &tiny)?;
+    write_lines("exp_1", &wide)?;
+    write_lines("exp_2", &wide)?;
+    write_lines("table_of_59", &score::tiny_entries())?;
+    write_lines("table_of_93", &score::wide_entries())
+}
+
+fn write_lines(name: &str, weights: &[u64]) -> io::Result<()> {
+    let mut out = BufWriter::new(io::stdout().lock());
+    for &x in weights {
+        writeln!(out, "{}", rust_line(name, x).expect("a function's name"))?;
+    }
+    out.flush()
+}
+
+/// The vector of the Rust's function with this name for x, where there is one.
+fn rust_line(name: &str, x: u64) -> Option<String> {
+    let (_, function) = rust::FUNCTIONS.iter().find(|function| function.0 == name)?;
+    let mut numbers = vec![x];
+    numbers.extend(
+        function(f64::from_bits(x))
+            .into_iter()
+            .map(machine::pattern),
+    );
+    let numbers: String = numbers.iter().map(|n| format!(" {n:016x}")).collect();
+    Some(format!("{name}{numbers}"))
+}
+
+/// Compares the vectors on standard input, those of the score and its phases, with the Rust's, and counts the steps that the scores reach;
+/// false where an answer is another, or too few reach a step.
+pub fn check_scores() -> bool {
+    if rust::INSTANCES.is_empty() {
+        println!("vectors of the score: not compared, the Rust source was not there");
+        return true;
+    }
+    let mut reach = Reach::default();
+    let mut count = 0;
+    let mut mismatches = 0;
+    for line in io::stdin().lines() {
+        let line = line.expect("a text");
+        if !is_rust(&line, &mut reach) {
+            println!("{line}: not the Rust's");
+            mismatches += 1;
+        }
+        count += 1;
+    }
+    println!("vectors of the score: {count}, {mismatches} mismatches");
+    let enough = reach.print(LEAST);
+    mismatches == 0 && enough
+}
+
+/// Whether a line is a vector with the Rust's answer. The step of a score is counted.
+fn is_rust(line: &str, reach: &mut Reach) -> bool {
+    let mut fields = line.split(' ');
+    let (Some(name), Some(x)) = (fields.next(), fields.next()) else {
+        return false;
+    };
+    let Ok(x) = u64::from_str_radix(x, 16) else {
+        return false;
+    };
+    if name == "score" {
+        reach.count(x);
+    }
+    rust_line(name, x).is_some_and(|answered| answered == line)
 }
 
 fn write_cases(cases: &[Case]) -> io::Result<()> {

@@ -4,6 +4,7 @@ use std::fmt;
 use std::ops::{Add, BitAnd, BitOr, Not, Shl, Shr, Sub};
 
 use super::DisplayHex;
+use crate::calls::{Call, keep};
 
 pub trait MinInt: Copy + PartialEq {
     type OtherSign: MinInt;
@@ -63,6 +64,7 @@ macro_rules! int {
             }
 
             fn unsigned(self) -> $unsigned {
+                keep(Call::Unsigned);
                 self as $unsigned
             }
         }

@@ -45,7 +45,7 @@ exp2m1FastTiny x =
     estimate p (mul binary64 (bits 0x3bd4e00000000000) (p .hi))
 
 -- the polynomial of the accurate phase
-unfoldable pub polynomialQ : Float → Float
+unfoldable pub polynomialQ : Float → Pair
 polynomialQ x =
     let x2 = mul binary64 x x in
     let x4 = mul binary64 x2 x2 in
@@ -67,9 +67,10 @@ polynomialQ x =
     let p2 = hornerStep x p3 (Q 2) (Q 3) in
     let p1 = hornerStep x p2 (Q 0) (Q 1) in
     -- multiply by x
-    let p = sMul x p1 in
-    add binary64 (p .hi) (p .lo)
+    sMul x p1
 
 -- the accurate phase: the exceptional cases, then the polynomial
 unfoldable pub exp2m1AccurateTiny : Float → Float
-exp2m1AccurateTiny x = orElse (find Tiny x) (polynomialQ x)
+exp2m1AccurateTiny x =
+    let p = polynomialQ x in
+    orElse (find Tiny x) (add binary64 (p .hi) (p .lo))

@@ -163,10 +163,12 @@ pub fn exp2m1_accurate_tiny(x: f64) -> f64
     if let Found::Reply(result) = exceptions::exception(Stretch::Tiny, x) {
         return result;
     }
-    polynomial_q(x)
+    let p = polynomial_q(x);
+    p.hi + p.lo
 }
 
-fn polynomial_q(x: f64) -> f64
+// The polynomial of the accurate phase, before the last sum.
+pub fn polynomial_q(x: f64) -> Pair
     ensures { λ r. ⌜ r ≡ polynomialQ x ⌝ }
 {
     let x2 = x * x;
@@ -190,6 +192,5 @@ fn polynomial_q(x: f64) -> f64
     let p = horner_step(x, p, Q_2, Q_3);
     let p = horner_step(x, p, Q_0, Q_1);
     // multiply hi+lo by x
-    let p = s_mul(x, p);
-    p.hi + p.lo
+    s_mul(x, p)
 }

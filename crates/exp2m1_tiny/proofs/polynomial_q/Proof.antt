@@ -25,7 +25,7 @@ follows : (x : Float) {c13 c11 d13 : Float} {p9 s t p7 p6 p5 p4 p3 p2 p1 p : Pai
     → p2 ≡ hornerStep x p3 (Q 2) (Q 3)
     → p1 ≡ hornerStep x p2 (Q 0) (Q 1)
     → p ≡ sMul x p1
-    → add binary64 (p .hi) (p .lo) ≡ polynomialQ x
+    → p ≡ polynomialQ x
 unfolding polynomialQ
 follows x h1 h2 h3 h4 h5 h6 h7 h8 h9 h10 h11 h12 h13 h14 = cc
 
@@ -38,15 +38,14 @@ returns c =
     let c5 = c4 .before in
     let c6 = c5 .before in
     let c7 = c6 .before in
-    let c8 = c7 .before in
-    let c11 = c8 .before .before .before in
+    let c10 = c7 .before .before .before in
+    let c11 = c10 .before in
     let c12 = c11 .before in
     let c13 = c12 .before in
     let c14 = c13 .before in
-    let c15 = c14 .before in
-    follows _ (c15 .before .fma .ensures) (c15 .fma2 .ensures) (c14 .fma3 .ensures) (c13 .fast-two-sum .ensures .0) (c12 .s-mul .ensures) (c11 .fast-two-sum2 .ensures .0)
-    (c8 .horner-step .ensures) (c7 .horner-step2 .ensures) (c6 .horner-step3 .ensures) (c5 .horner-step4 .ensures) (c4 .horner-step5 .ensures) (c3 .horner-step6 .ensures)
-    (c2 .horner-step7 .ensures) (c1 .s-mul2 .ensures)
+    follows _ (c14 .before .fma .ensures) (c14 .fma2 .ensures) (c13 .fma3 .ensures) (c12 .fast-two-sum .ensures .0) (c11 .s-mul .ensures) (c10 .fast-two-sum2 .ensures .0)
+    (c7 .horner-step .ensures) (c6 .horner-step2 .ensures) (c5 .horner-step3 .ensures) (c4 .horner-step4 .ensures) (c3 .horner-step5 .ensures) (c2 .horner-step6 .ensures)
+    (c1 .horner-step7 .ensures) (c .s-mul2 .ensures)
 
 pub polynomial-q-spec : {M : Type 1} → statement M
 polynomial-q-spec =
