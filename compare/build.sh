@@ -32,7 +32,8 @@ compile() {
 
 compile "$@" --crate-type rlib --crate-name ffi -L native=target/staticlib --out-dir "$out" compare/ffi.rs
 
-# The Rust exp2m1 over each fma, and two with the machine's that keep calls, as crates of their own.
+# The Rust exp2m1 over each fma, two with the machine's that keep calls, and one in which a coefficient can be set to zero, as crates of
+# their own.
 exp2m1() {
     compile -A unexpected_cfgs --cfg "fma=\"$1\"" \
         --crate-type rlib --crate-name "exp2m1_$1" --extern ffi --out-dir "$out" compare/libm/lib.rs
@@ -44,11 +45,13 @@ if [ -f "$source/libm/src/math/exp2m1.rs" ]; then
     exp2m1 weigher
     exp2m1 recorded
     exp2m1 counted
+    sed -E 's/\<(P|Q|Q_1|Q_2)\[([0-9]+)\]/bent("\1", \2, \1[\2])/g' "$source/libm/src/math/exp2m1.rs" > "$out/bent.rs"
+    exp2m1 bent
     if [ $# -gt 0 ]; then
         exp2m1 musl
         set -- "$@" --extern exp2m1_musl
     fi
-    set -- "$@" --cfg exp2m1 --extern exp2m1_machine --extern exp2m1_weigher --extern exp2m1_recorded --extern exp2m1_counted
+    set -- "$@" --cfg exp2m1 --extern exp2m1_machine --extern exp2m1_weigher --extern exp2m1_recorded --extern exp2m1_counted --extern exp2m1_bent
 fi
 
 if grep -qs mpfr_exp2m1 /usr/include/mpfr.h; then

@@ -1,4 +1,4 @@
-//! The calls of the stand-ins, which the crates `recorded` and `counted` keep.
+//! The calls of the stand-ins, which the crates `recorded`, `bent` and `counted` keep.
 
 pub enum Call {
     Fma(f64, f64, f64),
@@ -8,13 +8,13 @@ pub enum Call {
     Unsigned,
 }
 
-#[cfg(fma = "recorded")]
+#[cfg(any(fma = "recorded", fma = "bent"))]
 thread_local! {
     /// The operands of each call of fma so far.
     pub static OPERANDS: std::cell::RefCell<Vec<(f64, f64, f64)>> = const { std::cell::RefCell::new(Vec::new()) };
 }
 
-#[cfg(fma = "recorded")]
+#[cfg(any(fma = "recorded", fma = "bent"))]
 pub fn keep(call: Call) {
     if let Call::Fma(x, y, z) = call {
         OPERANDS.with_borrow_mut(|operands| operands.push((x, y, z)));
@@ -50,5 +50,21 @@ pub fn keep(call: Call) {
     COUNTS.set(counts);
 }
 
-#[cfg(not(any(fma = "recorded", fma = "counted")))]
+#[cfg(not(any(fma = "recorded", fma = "bent", fma = "counted")))]
 pub fn keep(_: Call) {}
+
+#[cfg(fma = "bent")]
+thread_local! {
+    /// The array and the number of the coefficient that is zero.
+    pub static ZERO: std::cell::Cell<(&'static str, usize)> = const { std::cell::Cell::new(("", 0)) };
+}
+
+/// A coefficient as exp2m1.rs reads it, or zero.
+#[cfg(fma = "bent")]
+pub fn bent(array: &'static str, number: usize, coefficient: f64) -> f64 {
+    if ZERO.get() == (array, number) {
+        0.0
+    } else {
+        coefficient
+    }
+}

@@ -1,6 +1,11 @@
-//! exp2m1.rs, unchanged, and ways to its private phases.
+//! exp2m1.rs, unchanged, and ways to its private phases. In the crate `bent` each coefficient is read through `bent`.
 
+#[cfg(not(fma = "bent"))]
 include!("../../target/compare/source/libm/src/math/exp2m1.rs");
+#[cfg(fma = "bent")]
+include!("../../target/compare/bent.rs");
+#[cfg(fma = "bent")]
+use super::calls::bent;
 
 /// The pair of the fast phase for |x| <= 0.125.
 pub fn fast_tiny(x: f64) -> [f64; 2] {

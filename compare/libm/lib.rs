@@ -31,7 +31,7 @@ use ldexp::ldexp;
 use scalbn::{scalbn, scalbnf};
 
 /// Stands in for fma.rs: the machine's.
-#[cfg(any(fma = "machine", fma = "recorded", fma = "counted"))]
+#[cfg(not(any(fma = "weigher", fma = "musl")))]
 fn fma(x: f64, y: f64, z: f64) -> f64 {
     keep(Call::Fma(x, y, z));
     x.mul_add(y, z)

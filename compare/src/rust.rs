@@ -3,8 +3,6 @@
 use std::io;
 
 #[cfg(exp2m1)]
-use exp2m1_machine::exp2m1 as phases;
-#[cfg(exp2m1)]
 use exp2m1_recorded::calls::OPERANDS;
 
 use crate::machine;
@@ -22,19 +20,46 @@ pub const INSTANCES: &[(&str, fn(f64) -> f64)] = &[
 /// A function of exp2m1.rs by a vector's name, and its answers.
 pub type Function = (&'static str, fn(f64) -> Vec<f64>);
 
-/// The score; the phases that give a pair hi, lo, two for weights up to 1/8 in size and two for larger ones; and the tables of step 8.
+/// The functions of a crate: the score; the phases that give a pair hi, lo, two for weights up to 1/8 in size and two for larger ones; and
+/// the tables of step 8.
 #[cfg(exp2m1)]
-pub const FUNCTIONS: &[Function] = &[
-    ("score", |x| vec![exp2m1_machine::exp2m1(x)]),
-    ("exp2m1_fast_tiny", |x| phases::fast_tiny(x).to_vec()),
-    ("polynomial_q", |x| polynomial_q(x).to_vec()),
-    ("exp_1", |x| phases::fast_power(x).to_vec()),
-    ("exp_2", |x| phases::accurate_power(x).to_vec()),
-    ("table_of_59", |x| vec![phases::accurate_tiny(x)]),
-    ("table_of_93", |x| vec![phases::accurate_wide(x)]),
-];
+macro_rules! functions {
+    ($rust:ident) => {
+        &[
+            ("score", |x| vec![$rust::exp2m1(x)]),
+            ("exp2m1_fast_tiny", |x| $rust::exp2m1::fast_tiny(x).to_vec()),
+            ("polynomial_q", |x| {
+                $rust::calls::OPERANDS.take();
+                $rust::exp2m1::accurate_tiny(x);
+                last_pair(&$rust::calls::OPERANDS.take())
+            }),
+            ("exp_1", |x| $rust::exp2m1::fast_power(x).to_vec()),
+            ("exp_2", |x| $rust::exp2m1::accurate_power(x).to_vec()),
+            ("table_of_59", |x| vec![$rust::exp2m1::accurate_tiny(x)]),
+            ("table_of_93", |x| vec![$rust::exp2m1::accurate_wide(x)]),
+        ]
+    };
+}
+
+#[cfg(exp2m1)]
+pub const FUNCTIONS: &[Function] = functions!(exp2m1_recorded);
 #[cfg(not(exp2m1))]
 pub const FUNCTIONS: &[Function] = &[];
+
+/// The functions with the coefficient that `zero` names set to zero.
+#[cfg(exp2m1)]
+pub const BENT_FUNCTIONS: &[Function] = functions!(exp2m1_bent);
+#[cfg(not(exp2m1))]
+pub const BENT_FUNCTIONS: &[Function] = &[];
+
+/// Sets a coefficient of `BENT_FUNCTIONS` to zero, by its array and number.
+#[cfg(exp2m1)]
+pub fn zero(array: &'static str, number: usize) {
+    exp2m1_bent::calls::ZERO.set((array, number));
+}
+
+#[cfg(not(exp2m1))]
+pub fn zero(_: &'static str, _: usize) {}
 
 #[cfg(exp2m1)]
 const TEXT: &str = include_str!("../../target/compare/source/libm/src/math/exp2m1.rs");
@@ -73,16 +98,14 @@ pub fn fma_calls(_: impl Iterator<Item = u64>) -> Vec<(u64, u64, u64)> {
     Vec::new()
 }
 
-/// The pair of the accurate phase for a weight up to 1/8 in size that is no entry of its table. The Rust returns its sum; the last calls of
-/// fma, those of s_mul, have the pair: fma(a, bh, -hi), and then lo.
+/// The pair that s_mul computed last, by the operands of its two calls of fma: fma(a, bh, -hi), and then lo. The accurate phase for
+/// |x| <= 1/8 returns its sum.
 #[cfg(exp2m1)]
-fn polynomial_q(x: f64) -> [f64; 2] {
-    OPERANDS.take();
-    exp2m1_recorded::exp2m1::accurate_tiny(x);
-    let [.., (_, _, minus_hi), (a, b, c)] = OPERANDS.take()[..] else {
-        panic!("{x:e}: no polynomial");
+fn last_pair(operands: &[(f64, f64, f64)]) -> Vec<f64> {
+    let [.., (_, _, minus_hi), (a, b, c)] = *operands else {
+        panic!("an entry of the table of 59");
     };
-    [-minus_hi, a.mul_add(b, c)]
+    vec![-minus_hi, a.mul_add(b, c)]
 }
 
 /// x of each entry of the exception tables: the first number of each line that has three.

@@ -6,6 +6,7 @@ use std::io::{self, BufWriter, Write};
 use crate::case::Case;
 use crate::cases::{FLOOR, FUSED, Operation, ROUND, SCALE};
 use crate::random::Random;
+use crate::rust::Function;
 use crate::steps::Reach;
 use crate::values::{CLASSES, SPECIALS};
 use crate::{machine, rust, score};
@@ -24,6 +25,9 @@ const WEIGHTS: usize = 15000;
 /// Weights of each range for which the fast phase does not decide, of which some come twice; and how many there must be.
 const UNDECIDED: u64 = 200;
 const LEAST: u64 = 190;
+
+/// The arrays of coefficients in exp2m1.rs.
+const COEFFICIENTS: [(&str, usize); 4] = [("P", 12), ("Q", 22), ("Q_1", 5), ("Q_2", 9)];
 
 /// Weights of each range for which the pairs of the phases are written.
 const PAIRS: usize = 20;
@@ -67,14 +71,15 @@ pub fn write_phases() -> io::Result<()> {
 fn write_lines(name: &str, weights: &[u64]) -> io::Result<()> {
     let mut out = BufWriter::new(io::stdout().lock());
     for &x in weights {
-        writeln!(out, "{}", rust_line(name, x).expect("a function's name"))?;
+        let line = answered(rust::FUNCTIONS, name, x);
+        writeln!(out, "{}", line.expect("a function's name"))?;
     }
     out.flush()
 }
 
-/// The vector of the Rust's function with this name for x, where there is one.
-fn rust_line(name: &str, x: u64) -> Option<String> {
-    let (_, function) = rust::FUNCTIONS.iter().find(|function| function.0 == name)?;
+/// The vector of the function with this name for x, where there is one.
+fn answered(functions: &[Function], name: &str, x: u64) -> Option<String> {
+    let (_, function) = functions.iter().find(|function| function.0 == name)?;
     let mut numbers = vec![x];
     numbers.extend(
         function(f64::from_bits(x))
@@ -85,42 +90,65 @@ fn rust_line(name: &str, x: u64) -> Option<String> {
     Some(format!("{name}{numbers}"))
 }
 
-/// Compares the vectors on standard input, those of the score and its phases, with the Rust's, and counts the steps that the scores reach;
-/// false where an answer is another, or too few reach a step.
+/// Compares the vectors on standard input, those of the score and its phases, with the Rust's. Counts the steps that the scores reach, and
+/// the vectors that differ where a coefficient is zero. False where an answer is another, too few reach a step, or none differs.
 pub fn check_scores() -> bool {
     if rust::INSTANCES.is_empty() {
         println!("vectors of the score: not compared, the Rust source was not there");
         return true;
     }
+    let lines: Vec<String> = io::stdin()
+        .lines()
+        .map(|line| line.expect("a text"))
+        .collect();
     let mut reach = Reach::default();
-    let mut count = 0;
     let mut mismatches = 0;
-    for line in io::stdin().lines() {
-        let line = line.expect("a text");
-        if !is_rust(&line, &mut reach) {
+    for line in &lines {
+        if let Some(("score", x)) = name_and_weight(line) {
+            reach.count(x);
+        }
+        if !is_answered(rust::FUNCTIONS, line) {
             println!("{line}: not the Rust's");
             mismatches += 1;
         }
-        count += 1;
     }
-    println!("vectors of the score: {count}, {mismatches} mismatches");
+    println!(
+        "vectors of the score: {}, {mismatches} mismatches",
+        lines.len()
+    );
     let enough = reach.print(LEAST);
-    mismatches == 0 && enough
+    let noticed = zeros_are_noticed(&lines);
+    mismatches == 0 && enough && noticed
 }
 
-/// Whether a line is a vector with the Rust's answer. The step of a score is counted.
-fn is_rust(line: &str, reach: &mut Reach) -> bool {
-    let mut fields = line.split(' ');
-    let (Some(name), Some(x)) = (fields.next(), fields.next()) else {
-        return false;
-    };
-    let Ok(x) = u64::from_str_radix(x, 16) else {
-        return false;
-    };
-    if name == "score" {
-        reach.count(x);
+/// Sets each coefficient to zero, and prints for each how many vectors differ from the answers; false where none does.
+fn zeros_are_noticed(lines: &[String]) -> bool {
+    let mut noticed = true;
+    for (array, length) in COEFFICIENTS {
+        print!("  {array} with one coefficient zero, vectors that differ:");
+        for number in 0..length {
+            rust::zero(array, number);
+            let differs = |line: &&String| !is_answered(rust::BENT_FUNCTIONS, line);
+            let count = lines.iter().filter(differs).count();
+            print!(" {count}");
+            noticed &= count > 0;
+        }
+        println!();
     }
-    rust_line(name, x).is_some_and(|answered| answered == line)
+    noticed
+}
+
+/// Whether a line is a vector with the answer of its function.
+fn is_answered(functions: &[Function], line: &str) -> bool {
+    let answered = name_and_weight(line).and_then(|(name, x)| answered(functions, name, x));
+    answered.is_some_and(|answered| answered == line)
+}
+
+fn name_and_weight(line: &str) -> Option<(&str, u64)> {
+    let mut fields = line.split(' ');
+    let name = fields.next()?;
+    let x = u64::from_str_radix(fields.next()?, 16).ok()?;
+    Some((name, x))
 }
 
 fn write_cases(cases: &[Case]) -> io::Result<()> {
