@@ -27,6 +27,10 @@ test: constants proved compare examples outside
 	rt fmt --check
 	rt ci
 
+# Each constant of the Rust source beside the definitions' and the code's, where the source is there.
+constants:
+	tests/constants.sh
+
 # What the archives and the program stand on, in one go: crates that don't need each other are proved side by side.
 proved:
 	rt check weigher capi fast_fused_c
@@ -36,10 +40,6 @@ archive:
 
 program:
 	rt check weigher
-
-# Each constant of the Rust source beside the definitions' and the code's, where the source is there.
-constants:
-	tests/constants.sh
 
 # Edge cases and a million random ones of each operation, and lists of calls, where rustc is there; the score, its recorded vectors and
 # random streams where the Rust source is too.
