@@ -10,9 +10,9 @@ use lib.Seq.{take-add, take-append-seam, drop-drop}
 use borrow.Author.Tests.{ltb-true, ne-eqb}
 use Rattle.frames.specs.Frame.{answerRoom}
 use Rattle.service.specs.Book.{Book, Call, Take, Entry, Reply, bookTake, bookCall, bookReplies, replyOf, bufferOf, isSmall}
-use Rattle.service.specs.Stream.{Item, byte, joinedFrom, writtenBy, written}
-use Rattle.service.specs.Demands.{bookAfter, handedOn, AllLarge}
-use Rattle.service.proofs.Demands.{map-append, joined-append}
+use Rattle.demands.specs.Stream.{Item, byte, joinedFrom, writtenBy, written}
+use Rattle.demands.specs.Demands.{bookAfter, handedOn, AllLarge}
+use Rattle.demands.proofs.Demands.{map-append, joined-append}
 use Rattle.delivery.specs.Delivery.{Given, andThen, takes}
 use Rattle.delivery.proofs.Takes.{uses}
 

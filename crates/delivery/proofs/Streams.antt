@@ -10,12 +10,13 @@ use lib.Seq.{take-all, take-append-seam}
 use borrow.Author.Tests.{le-ltb, ltb-true, ltb-false}
 use Rattle.frames.specs.Frame.{answerRoom, whole}
 use Rattle.service.specs.Book.{Book, emptyBook, Call, Close, Reply, stateOf, bookCall, isSmall}
-use Rattle.service.specs.Stream.{Item, byte, closing, joined, joinedFrom, parted, answersFrom, written}
-use Rattle.service.specs.Demands.{bookAfter, handedOn}
+use Rattle.demands.specs.Stream.{Item, byte, closing, joined, joinedFrom, parted, answersFrom, written}
+use Rattle.demands.specs.Demands.{bookAfter, handedOn}
 use Rattle.service.specs.declared.State.{State}
-use Rattle.service.proofs.Simulation.{close-book, fresh-whole, whole-none, after-unfinished, after-fresh}
-use Rattle.service.proofs.Streams.{written-points}
-use Rattle.service.proofs.Demands.{demand-3, map-append, joined-append}
+use Rattle.service.proofs.Simulation.{close-book, fresh-whole, whole-none}
+use Rattle.demands.proofs.Simulation.{after-unfinished, after-fresh}
+use Rattle.demands.proofs.Streams.{written-points}
+use Rattle.demands.proofs.Demands.{demand-3, map-append, joined-append}
 use Rattle.delivery.specs.Delivery.{Given, deliveryOf, given, handOn}
 use Rattle.delivery.specs.Streams.{front, Handed, behind, handed, handedToEnd, outputOf, ByTakes, Streams}
 use Rattle.delivery.proofs.Promises.{Reached, takes-reached, delivery-uses}

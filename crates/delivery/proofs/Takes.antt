@@ -17,7 +17,7 @@ use Rattle.service.specs.declared.State.{State}
 use Rattle.service.specs.declared.Taken.{Taken}
 use Rattle.service.proofs.Memory.{answer-length}
 use Rattle.service.proofs.Simulation.{take-book, settled-short}
-use Rattle.service.proofs.Demands.{uses-some}
+use Rattle.demands.proofs.Demands.{uses-some}
 use Rattle.delivery.specs.Delivery.{Given, nothing, andThen, takes, deliveryOf, given, handedOnOf, Delivery}
 
 -- ---- one take of the book

@@ -7,8 +7,8 @@ use lib.ListN.{length, take, drop}
 use Rattle.frames.specs.Frame.{answerRoom}
 use Rattle.service.specs.Book.{emptyBook, Call, Reply, isSmall}
 use Rattle.service.specs.Service.{freshState, closeOf, stateAfter}
-use Rattle.service.specs.Stream.{byte, closing, joined, parted, answersFrom, written}
-use Rattle.service.specs.Demands.{run, bookAfter, handedOn, AllLarge}
+use Rattle.demands.specs.Stream.{byte, closing, joined, parted, answersFrom, written}
+use Rattle.demands.specs.Demands.{run, bookAfter, handedOn, AllLarge}
 use Rattle.service.specs.declared.State.{State}
 use Rattle.delivery.specs.Delivery.{handOn}
 

@@ -11,9 +11,8 @@ use Rattle.partial_frame.specs.State.{frameOf, bytesIn}
 use Rattle.service.specs.Memory.{Memory, View, startMemory, viewOf, stateWith, answerWith}
 use Rattle.partial_frame.specs.declared.PartialFrame.{PartialFrame}
 use Rattle.service.proofs.Memory.{answer-alike, remembered-alike, view-recalled, view-good}
-use Rattle.service.specs.Book.{Book, emptyBook, stateOf, Call, Take, Close, Entry, Moved, Reply, move, oneMore, settled, answeredBy, closedWith, bookCall, replyOf, bufferOf, bookReplies, isSmall}
-use Rattle.service.specs.Service.{freshState, isGood, bookOf, takeOf, closeOf, serviceCall, serviceRun, stateAfter}
-use Rattle.service.specs.Demands.{bookAfter, replyAfter}
+use Rattle.service.specs.Book.{Book, emptyBook, stateOf, Call, Take, Close, Entry, Moved, Reply, move, oneMore, settled, answeredBy, closedWith, bookCall, replyOf, bufferOf, isSmall}
+use Rattle.service.specs.Service.{freshState, isGood, bookOf, takeOf, closeOf, serviceCall}
 use Rattle.partial_frame.specs.Steps.{afterByte, wholeIn}
 use Rattle.service.specs.declared.State.{State}
 use Rattle.partial_frame.proofs.Held.{byte-held, whole-held, not-past, empty-held}
@@ -152,27 +151,5 @@ held-short (Close buffer) h n = go (isSmall buffer) refl
     go true e = rw e n
     go false e = rw e (close-short (h .held) (h .memory))
 
-pub run-book : (cs : List Call) (h : Book) → whole (h .held) ≡ false → serviceRun (stateOf h) cs ≡ bookReplies h cs
-run-book [] h n = refl
-run-book (c ∷ cs) h n =
-    ap (λ (r : Reply). r ∷ serviceRun (r .state) cs) (call-book c h n)
-    ∙ ap {B = List Reply} (λ l. replyOf (bookCall h c) (bufferOf c) ∷ l) (run-book cs (bookCall h c .book) (held-short c h n))
-
 pub fresh-whole : stateOf emptyBook ≡ freshState
 fresh-whole = ap (λ (p : PartialFrame). stateWith p (viewOf startMemory)) empty-held
-
--- ---- after a list of calls
-
-pub after-unfinished : (cs : List Call) (b : Book) → whole (b .held) ≡ false → whole (bookAfter b cs .held) ≡ false
-after-unfinished [] b n = n
-after-unfinished (c ∷ cs) b n = after-unfinished cs (bookCall b c .book) (held-short c b n)
-
-after-state : (cs : List Call) (b : Book) → whole (b .held) ≡ false → stateAfter (stateOf b) cs ≡ stateOf (bookAfter b cs)
-after-state [] b n = refl
-after-state (c ∷ cs) b n = ap (λ (r : Reply). stateAfter (r .state) cs) (call-book c b n) ∙ after-state cs (bookCall b c .book) (held-short c b n)
-
-pub after-fresh : (cs : List Call) → stateAfter freshState cs ≡ stateOf (bookAfter emptyBook cs)
-after-fresh cs = ap (λ (s : State). stateAfter s cs) (sym fresh-whole) ∙ after-state cs emptyBook whole-none
-
-pub reply-after : (cs : List Call) (c : Call) → replyAfter cs c ≡ replyOf (bookCall (bookAfter emptyBook cs) c) (bufferOf c)
-reply-after cs c = ap (λ (s : State). serviceCall s c) (after-fresh cs) ∙ call-book c (bookAfter emptyBook cs) (after-unfinished cs emptyBook whole-none)

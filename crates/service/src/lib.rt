@@ -2,8 +2,7 @@
 //
 // Each call goes through for every state, piece and buffer, and promises by an equation all that it returns and every byte of the
 // buffer after it: takeOf and closeOf of specs/Service.antt, which go by document 01's plain book (specs/Book.antt).
-// specs/Demands.antt states demands 1 and 3 over whole lists of calls, and proofs/Demands.antt proves them; proofs/Examples.antt works them
-// out for some lists and states.
+// The crate demands states demands 1 and 3 over whole lists of calls, and proves them.
 ghost use mathlib.Core.Path.{_≡_};
 ghost use mathlib.Core.Bool.{false};
 ghost use Prim.Native.Nat.{_≤_};

@@ -7,15 +7,15 @@ use mathlib.Core.Bool.{Bool, true, false, cond}
 use lib.ListN.{take}
 use lib.Seq.{take-append-seam}
 use Rattle.frames.specs.Frame.{whole, refusalFrame}
 use Rattle.service.specs.Memory.{Memory, viewOf, stateWith, answerWith, remembered}
 use Rattle.service.proofs.Memory.{answer-some, fresh-with}
 use Rattle.partial_frame.specs.declared.PartialFrame.{PartialFrame}
 use Rattle.service.specs.Book.{Book, stateOf, emptied, Call, Take, Close, Moved, move, answered, closedWith, bookCall, replyOf, bufferOf, bookReplies, isSmall}
-use Rattle.service.specs.Stream.{Item, byte, movedBy, joinedFrom, Point, frame, closed, Parts, onePoint, partedFrom, answersFrom, writtenBy, written}
+use Rattle.demands.specs.Stream.{Item, byte, movedBy, joinedFrom, Point, frame, closed, Parts, onePoint, partedFrom, answersFrom, writtenBy, written}
 use Rattle.service.specs.Service.{freshState}
-use Rattle.service.specs.Demands.{bookAfter}
+use Rattle.demands.specs.Demands.{bookAfter}
 use Rattle.partial_frame.proofs.Held.{empty-held}
 use Rattle.service.proofs.Simulation.{held-short, move-whole, move-on}
 
 -- what comes after the movedBy bytes is parted from where the book then stands
 abbrev after : Moved → List Item → Parts

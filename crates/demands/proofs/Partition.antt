@@ -7,9 +7,9 @@ use native.Mathlib.Omega.{arith}
 use lib.ListN.{length, length-append}
 use borrow.Author.Tests.{leb-true, leb-false, lt-leb, le-leb}
 use Rattle.frames.specs.Frame.{bodyLength, whole}
-use Rattle.service.specs.Stream.{Item, byte, closing, Point, frame, closed, Parts, onePoint, partedFrom, parted, spelled, Exact, Partition}
+use Rattle.demands.specs.Stream.{Item, byte, closing, Point, frame, closed, Parts, onePoint, partedFrom, parted, spelled, Exact, Partition}
 use Rattle.partial_frame.proofs.Held.{not-past}
 use Rattle.service.proofs.Simulation.{whole-none}
 
 map-snoc : (h : List ℕ) (b : ℕ) (is : List Item) → map byte (h ++ (b ∷ [])) ++ is ≡ map byte h ++ (byte b ∷ is)
 map-snoc [] b is = refl

@@ -7,11 +7,11 @@ use mathlib.Core.Bool.{false}
 use lib.ListN.{length, take, drop}
 use Rattle.frames.specs.Frame.{longestBody, whole}
 use Rattle.partial_frame.specs.State.{frameOf}
 use Rattle.service.specs.Memory.{showsMemory}
 use Rattle.service.specs.Book.{Book, emptyBook, stateOf, Call, Take, Close, Reply, bookReplies, bookCall, bookTake, replyOf, isSmall}
 use Rattle.service.specs.Service.{freshState, untouched, takeOf, closeOf, serviceCall, serviceRun, stateAfter}
-use Rattle.service.specs.Stream.{Parts, Partition, Point, frame, closed, Item, byte, closing, joined, parted, pointsOf, answersFrom, written}
+use Rattle.demands.specs.Stream.{Parts, Partition, Point, frame, closed, Item, byte, closing, joined, parted, pointsOf, answersFrom, written}
 use Rattle.service.specs.declared.State.{State}
 
 -- ---- lists of calls
 

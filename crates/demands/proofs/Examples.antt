@@ -12,12 +12,12 @@ use Rattle.exp2m1.specs.Score.{steps, scoreBits}
 use Rattle.frames.specs.Frame.{answerRoom, bodyLength, whole, kept, isKind, itemBytes, badPayload, refusalTo, refusalFrame}
 use Rattle.answers.specs.Answers.{resultAt, resultsOf, accepted, answerTo, answerOf}
 use Rattle.partial_frame.specs.State.{keptBytes, placesOf, isLeft, bytesIn}
 use Rattle.service.specs.Book.{emptyBook, Call, Take, Close, Reply}
 use Rattle.service.specs.Service.{freshState, isGood, bookOf, untouched, takeOf, closeOf}
-use Rattle.service.specs.Stream.{byte, joined, pointsOf, written}
-use Rattle.service.specs.Demands.{run, replyAfter, handedOn, AllLarge, blanked, Alike, SameAnswers, Unreached}
+use Rattle.demands.specs.Stream.{byte, joined, pointsOf, written}
+use Rattle.demands.specs.Demands.{run, replyAfter, handedOn, AllLarge, blanked, Alike, SameAnswers, Unreached}
 use Rattle.service.specs.declared.State.{State}
-use Rattle.service.proofs.Demands.{demand-1, demand-3}
+use Rattle.demands.proofs.Demands.{demand-1, demand-3}
 
 -- an answer buffer of 516 bytes
 abbrev room : List ℕ

@@ -8,18 +8,19 @@ use native.Mathlib.Omega.{arith}
 use lib.ListN.{length, take, drop, length-drop, take-append-drop}
 use Rattle.frames.specs.Frame.{longestBody, whole}
 use Rattle.partial_frame.specs.State.{frameOf, isLeft}
 use Rattle.service.specs.Memory.{Memory, viewOf}
 use Rattle.service.specs.Book.{Book, emptyBook, Call, Take, Close, Entry, Moved, Reply, move, settled, bookTake, closedWith, bookCall, bookReplies, isSmall}
 use Rattle.service.specs.Service.{isGood, bookOf, untouched, takeOf, closeOf, serviceRun}
-use Rattle.service.specs.Stream.{Item, byte, joined, joinedFrom, movedBy, pointsOf, answersFrom, written}
-use Rattle.service.specs.Demands.{Demand1, Demand3, Unreached, AllLarge, handedOn, bookAfter, SameAnswers, run}
+use Rattle.demands.specs.Stream.{Item, byte, joined, joinedFrom, movedBy, pointsOf, answersFrom, written}
+use Rattle.demands.specs.Demands.{Demand1, Demand3, Unreached, AllLarge, handedOn, bookAfter, SameAnswers, run}
 use Rattle.service.specs.declared.State.{State}
 use Rattle.service.proofs.Memory.{answer-number, none-shows}
-use Rattle.service.proofs.Simulation.{fresh-whole, run-book, whole-none, take-book, close-book, after-fresh, reply-after}
-use Rattle.service.proofs.Streams.{written-points, fresh-after, held-rest}
-use Rattle.service.proofs.Isolation.{alike-blanked, same-answers}
+use Rattle.service.proofs.Simulation.{fresh-whole, whole-none, take-book, close-book}
+use Rattle.demands.proofs.Simulation.{run-book, after-fresh, reply-after}
+use Rattle.demands.proofs.Streams.{written-points, fresh-after, held-rest}
+use Rattle.demands.proofs.Isolation.{alike-blanked, same-answers}
 use Rattle.service.proofs.Calls.{shown-by}
-use Rattle.service.proofs.Partition.{part-right, part-unique}
+use Rattle.demands.proofs.Partition.{part-right, part-unique}
 
 -- ---- the numbers
 
