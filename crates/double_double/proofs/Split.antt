@@ -12,8 +12,8 @@ use lib.Ieee.{Float, nan, inf, fin, binary64, mul, neg, eq, isNan, nanBits, fits
 use lib.Ieee.Exact.{HasValue}
 use lib.Ieee.Bits.{nanBits-above, ofBits-toBits}
 use lib.Ieee.Scale.{finite}
-use Rattle.ieee754.specs.Machine.{signOf, fieldOf, Middle}
-use Rattle.ieee754.proofs.Reading.{units-mid}
+use Rattle.operands.specs.Machine.{signOf, fieldOf, Middle}
+use Rattle.operands.proofs.Reading.{units-mid}
 use Rattle.double_double.specs.Pairs.{fma}
 use Rattle.double_double.specs.Machine.{highHalf}
 use Rattle.double_double.proofs.Multiples.{either-order}

@@ -3,14 +3,14 @@
 // Each function promises the pair that the definition of its name in specs/Pairs.antt gives for the same operands.
 // fast_two_sum and a_mul also promise where nothing is lost (specs/Exactness.antt). In a product lo stays a pattern until its last step.
 
-use ieee754::field;
-use ieee754::is_middle;
+use operands::field;
+use operands::is_middle;
 use pair::Pair;
 ghost use mathlib.Core.Path.{_≡_};
 ghost use mathlib.Core.Bool.{not};
 ghost use lib.Dec.{T};
 ghost use lib.Ieee.{binary64, mul, neg, isNan};
-ghost use Rattle.ieee754.specs.Machine.{fieldOf, Middle};
+ghost use Rattle.operands.specs.Machine.{fieldOf, Middle};
 ghost use Rattle.pair.specs.Pair.{bits};
 ghost use Rattle.double_double.specs.Pairs.{fma, fastTwoSum, fastSum, aMul, sMul, dMul};
 ghost use Rattle.double_double.specs.Exactness.{SumExact, ProductExact};

@@ -11,10 +11,10 @@ use lib.Ieee.{binary64, toBits}
 use Rattle.wide.proofs.Nat.{le-or-gt, shl}
 use Rattle.rounding.specs.declared.Direction.{Direction}
 use Rattle.rounding.specs.Machine.{Rounds}
-use Rattle.ieee754.specs.declared.Parts.{Parts}
+use Rattle.operands.specs.declared.Parts.{Parts}
 use Rattle.ieee754.specs.Operations.{sumTo}
-use Rattle.ieee754.specs.Machine.{Addends, RoundsSum}
-use Rattle.ieee754.proofs.Reading.{stands-just}
+use Rattle.operands.specs.Machine.{Addends, RoundsSum}
+use Rattle.operands.proofs.Reading.{stands-just}
 use Rattle.multiply_add.proofs.Sums.{differ, beq-same, beq-other, add-answer, sub-answer, over-answer, same-answer}
 use Rattle.fast_fused.specs.Machine.{SumOf}
 

@@ -16,9 +16,9 @@ use Rattle.wide.proofs.Sticky.{Jam, jam-of, jam-is, jam-scale, jam-below}
 use Rattle.wide.proofs.Shifts.{word-jammed, two-steps, far}
 use Rattle.rounding.specs.declared.Direction.{Direction}
 use Rattle.rounding.specs.Machine.{Stands, RoundsWord}
-use Rattle.ieee754.specs.declared.Parts.{Parts}
+use Rattle.operands.specs.declared.Parts.{Parts}
 use Rattle.ieee754.specs.Operations.{sumTo}
-use Rattle.ieee754.specs.Machine.{Normal, Summands, productSize, addendSize}
+use Rattle.operands.specs.Machine.{Normal, Summands, productSize, addendSize}
 use Rattle.multiply_add.proofs.Sums.{sum-like, sum-more, sum-comm, beq-true, beq-false, add-stands, sub-stands, sub-order}
 use Rattle.multiply_add.proofs.Products.{product-ready}
 

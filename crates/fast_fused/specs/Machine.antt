@@ -3,8 +3,8 @@ use mathlib.Core.Path.{_≡_}
 use mathlib.Core.Logic.{_≢_, _⊎_}
 use Prim.Native.Nat.{ℕ, _+_, _≤_, _<_}
 use mathlib.Core.Bool.{Bool}
-use Rattle.ieee754.specs.declared.Parts.{Parts}
-use Rattle.ieee754.specs.Machine.{Middle, Normal}
+use Rattle.operands.specs.declared.Parts.{Parts}
+use Rattle.operands.specs.Machine.{Middle, Normal}
 
 -- three exponent fields: the last digit of the third's number is one of the product of the others, or at most 20 above it
 pub record Near (x y z : ℕ) : Type 0 where

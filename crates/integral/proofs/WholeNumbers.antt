@@ -16,8 +16,8 @@ use Rattle.rounding.specs.Rounding.{whole, roundTo}
 use Rattle.rounding.specs.Machine.{Stands}
 use Rattle.rounding.proofs.Place.{exact, under, Sits, whole-at, whole-exact, whole-same}
 use Rattle.ieee754.specs.Operations.{roundToIntegral, roundBits, floorBits}
-use Rattle.ieee754.specs.Machine.{signOf, magnitude}
-use Rattle.ieee754.proofs.Reading.{Units, Finite, units, finite, exact-bits, nan-bits, inf-back, read-nan, read-inf, stands-just}
+use Rattle.operands.specs.Machine.{signOf, magnitude}
+use Rattle.operands.proofs.Reading.{Units, Finite, units, finite, exact-bits, nan-bits, inf-back, read-nan, read-inf, stands-just}
 
 -- a whole number, as `round_wide` takes it
 pub stands-whole : (w : ℕ) → Stands 2273 w 1 w 2273

@@ -4,7 +4,7 @@ ghost use mathlib.Core.Path.{_≡_};
 ghost use lib.Ieee.{toBits, ofBits, binary64};
 ghost use Rattle.rounding.specs.declared.Direction.the-variants.{Nearest, Down};
 ghost use Rattle.ieee754.specs.Operations.{fusedMultiplyAdd, roundToIntegral, scaleB};
-use ieee754::NAN;
+use operands::NAN;
 use rounding::INFINITY;
 use rounding::SIGN;
 

@@ -13,9 +13,9 @@ use lib.Ieee.Exact.{HasValue}
 use lib.Ieee.Fits.{down-pos}
 use Rattle.rounding.specs.declared.Direction.{Direction}
 use Rattle.rounding.specs.Rounding.{roundTo}
-use Rattle.ieee754.specs.declared.Parts.{Parts}
+use Rattle.operands.specs.declared.Parts.{Parts}
 use Rattle.ieee754.specs.Operations.{product, plus, sumTo, fusedBits}
-use Rattle.ieee754.specs.Machine.{Normal, Ready, productSize, addendSize}
+use Rattle.operands.specs.Machine.{Normal, Ready, productSize, addendSize}
 use Rattle.multiply_add.proofs.Sums.{sum-like, sum-more, differ}
 
 pub fused-is : (d : Direction) (a b c : ℕ) → fusedBits d a b c ≡ toBits binary64 (plus d (product (ofBits binary64 a) (ofBits binary64 b)) (ofBits binary64 c))

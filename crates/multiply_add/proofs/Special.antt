@@ -15,9 +15,9 @@ use Rattle.rounding.specs.declared.Direction.{Direction}
 use Rattle.rounding.specs.Rounding.{roundTo}
 use Rattle.rounding.specs.Machine.{signBit}
 use Rattle.ieee754.specs.Operations.{Product, invalid, infinite, exactly, product, plus, sumTo, zeroSign, fusedBits}
-use Rattle.ieee754.specs.Machine.{signOf, magnitude}
+use Rattle.operands.specs.Machine.{signOf, magnitude}
 use Rattle.multiply_add.proofs.Sums.{sum-like, sum-less, sum-same}
-use Rattle.ieee754.proofs.Reading.{Units, Finite, units, finite, units-pos, exact-bits, nan-bits, inf-bits, zero-bits, inf-back, read-nan, read-inf, read-zero}
+use Rattle.operands.proofs.Reading.{Units, Finite, units, finite, units-pos, exact-bits, nan-bits, inf-bits, zero-bits, inf-back, read-nan, read-inf, read-zero}
 use Rattle.multiply_add.proofs.Products.{fused-is}
 
 -- ---- a zero product and a finite addend

@@ -19,8 +19,8 @@ use Rattle.rounding.specs.declared.Direction.{Direction}
 use Rattle.rounding.specs.Rounding.{roundTo}
 use Rattle.rounding.specs.Machine.{signBit, Stands, Rounds}
 use Rattle.ieee754.specs.Operations.{sumTo, zeroSign}
-use Rattle.ieee754.specs.Machine.{Summands, Addends, Ready, RoundsSum}
-use Rattle.ieee754.proofs.Reading.{zero-bits, stands-just}
+use Rattle.operands.specs.Machine.{Summands, Addends, Ready, RoundsSum}
+use Rattle.operands.proofs.Reading.{zero-bits, stands-just}
 
 -- ---- `sumTo` by its cases
 

@@ -21,8 +21,8 @@ use Rattle.rounding.specs.Machine.{signBit, overflowBits, packed, Stands}
 use Rattle.rounding.proofs.Place.{under, wholeAt, Sits}
 use Rattle.rounding.proofs.Rounding.{bits-at, bits-normal}
 use Rattle.ieee754.specs.Operations.{scaleB, scaleBits}
-use Rattle.ieee754.specs.Machine.{signOf, magnitude, scaledExponent}
-use Rattle.ieee754.proofs.Reading.{nan-bits, inf-back, pattern-back, zero-round, read-nan, read-inf, read-zero}
+use Rattle.operands.specs.Machine.{signOf, magnitude, scaledExponent}
+use Rattle.operands.proofs.Reading.{nan-bits, inf-back, pattern-back, zero-round, read-nan, read-inf, read-zero}
 
 pub scale-is : (a : ℕ) (n : ℤ) → toBits binary64 (scaleB Nearest (ofBits binary64 a) n) ≡ scaleBits a n
 unfolding scaleBits

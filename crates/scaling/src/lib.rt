@@ -4,11 +4,11 @@
 // Exponents past those of every result are brought to a bound, whose rounding is the same.
 ghost use mathlib.Core.Path.{_≡_};
 ghost use Prim.Native.Nat.{_≤_};
-ghost use Rattle.ieee754.specs.Machine.{Regular, scaledExponent};
+ghost use Rattle.operands.specs.Machine.{Regular, scaledExponent};
 ghost use Rattle.ieee754.specs.Operations.{scaleBits};
-use ieee754::NAN;
-use ieee754::negative;
-use ieee754::read;
+use operands::NAN;
+use operands::negative;
+use operands::read;
 use rounding::Direction;
 use rounding::INFINITY;
 use rounding::SIGN;

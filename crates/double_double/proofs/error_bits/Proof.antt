@@ -2,7 +2,7 @@
 use mathlib.Core.Path.{refl, subst}
 use Prim.Native.Nat.{ℕ}
 use borrow.Author.Needs.{needs}
-use Rattle.ieee754.specs.Machine.{Middle}
+use Rattle.operands.specs.Machine.{Middle}
 use Rattle.double_double.proofs.Chains.{link}
 use Rattle.double_double.proofs.Split.{factors, back}
 use Rattle.double_double.proofs.error_bits.Statement.{statement}

@@ -10,7 +10,7 @@ use borrow.Author.Needs.{needs}
 use native.Mathlib.Omega.{arith}
 use Rattle.wide.specs.Words.{value}
 use Rattle.rounding.specs.declared.Direction.the-variants.{Nearest}
-use Rattle.ieee754.specs.Machine.{signOf}
+use Rattle.operands.specs.Machine.{signOf}
 use Rattle.multiply_add.proofs.Products.{fused-is, exact-sum}
 use Rattle.fast_fused.specs.Machine.{SumOf}
 use Rattle.fast_fused.proofs.NearSums.{near-answer}

@@ -7,7 +7,7 @@ use borrow.Author.Needs.{needs}
 use native.Mathlib.Omega.{arith}
 use Rattle.rounding.specs.declared.Direction.the-variants.{Nearest}
 use Rattle.ieee754.specs.Operations.{sumTo}
-use Rattle.ieee754.specs.Machine.{signOf, Normal}
+use Rattle.operands.specs.Machine.{signOf, Normal}
 use Rattle.multiply_add.proofs.Products.{fused-is, exact-sum, product-parts, addend-parts}
 use Rattle.fast_fused.specs.Machine.{SmallParts}
 use Rattle.fast_fused.proofs.SmallProducts.{small-lt, summands}

@@ -2,8 +2,8 @@
 use mathlib.Core.Path.{_≡_, refl}
 use Prim.Native.Nat.{ℕ, suc, _+_, _-_, _%_, _/_, _≤_, _<_}
 use native.Mathlib.Omega.{arith}
-use Rattle.ieee754.proofs.Reading.{reads-mid}
-use Rattle.ieee754.specs.Machine.{fieldOf}
+use Rattle.operands.proofs.Reading.{reads-mid}
+use Rattle.operands.specs.Machine.{fieldOf}
 use borrow.Author.Needs.{needs}
 use Rattle.fast_fused.proofs.read_normal.Statement.{statement}
 use Rattle.fast_fused.proofs.read_normal.Tie as tie

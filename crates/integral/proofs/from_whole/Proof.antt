@@ -5,7 +5,7 @@ use native.Mathlib.Nat.{mul-one, zero-add}
 use lib.Dec.{lit<}
 use borrow.Author.Needs.{needs}
 use Rattle.rounding.specs.Machine.{Rounds}
-use Rattle.ieee754.proofs.Reading.{zero-round}
+use Rattle.operands.proofs.Reading.{zero-round}
 use Rattle.integral.proofs.WholeNumbers.{stands-whole}
 use Rattle.integral.proofs.from_whole.Statement.{statement}
 use Rattle.integral.proofs.from_whole.Tie as tie

@@ -2,8 +2,8 @@
 use Prim.Native.Nat.{ℕ, _<_}
 use borrow.Author.Needs.{needs}
 use native.Mathlib.Omega.{arith}
-use Rattle.ieee754.specs.Machine.{magnitude}
-use Rattle.ieee754.proofs.Reading.{units, finite}
+use Rattle.operands.specs.Machine.{magnitude}
+use Rattle.operands.proofs.Reading.{units, finite}
 use Rattle.integral.proofs.WholeNumbers.{whole-nan, whole-large, whole-zero, whole-answer}
 use Rattle.integral.proofs.integral_in.Statement.{statement}
 use Rattle.integral.proofs.integral_in.Tie as tie

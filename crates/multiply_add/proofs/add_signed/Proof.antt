@@ -6,7 +6,7 @@ use lib.Arith.{digits-lt}
 use borrow.Author.Needs.{needs}
 use Rattle.wide.specs.declared.Wide.{Wide}
 use Rattle.wide.specs.Words.{value}
-use Rattle.ieee754.specs.Machine.{RoundsSum}
+use Rattle.operands.specs.Machine.{RoundsSum}
 use Rattle.multiply_add.proofs.Sums.{add-fits, sub-fits, picked-answer}
 use Rattle.multiply_add.proofs.add_signed.Statement.{statement}
 use Rattle.multiply_add.proofs.add_signed.Tie as tie

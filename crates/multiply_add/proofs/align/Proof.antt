@@ -7,7 +7,7 @@ use lib.Ieee.{binary64, toBits}
 use borrow.Author.Needs.{needs}
 use Rattle.wide.specs.declared.Wide.{Wide}
 use Rattle.wide.specs.Words.{value, jammed}
-use Rattle.ieee754.specs.Machine.{Ready, Addends}
+use Rattle.operands.specs.Machine.{Ready, Addends}
 use Rattle.ieee754.specs.Operations.{sumTo}
 use Rattle.multiply_add.proofs.Sums.{ready-pos, ready-sum, ready-pick, exponent-pick, align-answer}
 use Rattle.multiply_add.proofs.align.Statement.{statement}

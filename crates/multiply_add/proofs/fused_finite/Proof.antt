@@ -6,8 +6,8 @@ use lib.Ieee.{Float, binary64, ofBits, toBits}
 use borrow.Author.Needs.{needs}
 use native.Mathlib.Omega.{arith}
 use Rattle.ieee754.specs.Operations.{product, plus, exactly}
-use Rattle.ieee754.specs.Machine.{signOf, magnitude, Regular}
-use Rattle.ieee754.proofs.Reading.{units, finite, read-zero}
+use Rattle.operands.specs.Machine.{signOf, magnitude, Regular}
+use Rattle.operands.proofs.Reading.{units, finite, read-zero}
 use Rattle.multiply_add.proofs.Products.{fused-is}
 use Rattle.multiply_add.proofs.Special.{nan-c, inf-c, zero-left, zero-right}
 use Rattle.multiply_add.proofs.fused_finite.Statement.{statement}

@@ -8,7 +8,7 @@ use lib.Ieee.{binary64, ofBits, toBits}
 use borrow.Author.Needs.{needs}
 use native.Mathlib.Omega.{arith}
 use Rattle.ieee754.specs.Operations.{Product, plus, infinite}
-use Rattle.ieee754.specs.Machine.{magnitude}
+use Rattle.operands.specs.Machine.{magnitude}
 use Rattle.multiply_add.proofs.Products.{fused-is}
 use Rattle.multiply_add.proofs.Special.{zero-inf, inf-zero, infinite-product}
 use Rattle.multiply_add.proofs.fused_infinite.Statement.{statement}

@@ -5,7 +5,7 @@ use Prim.Native.Nat.{ℕ, _*_, _^_}
 use lib.Ieee.{binary64, ofBits, toBits}
 use borrow.Author.Needs.{needs}
 use Rattle.ieee754.specs.Operations.{sumTo}
-use Rattle.ieee754.specs.Machine.{signOf}
+use Rattle.operands.specs.Machine.{signOf}
 use Rattle.multiply_add.proofs.Products.{fused-is, exact-sum, product-parts, addend-parts}
 use Rattle.multiply_add.proofs.fused_nonzero.Statement.{statement}
 use Rattle.multiply_add.proofs.fused_nonzero.Tie as tie

@@ -6,8 +6,8 @@ use lib.Ieee.{Float, binary64, ofBits, toBits}
 use borrow.Author.Needs.{needs}
 use Rattle.rounding.specs.Rounding.{roundTo}
 use Rattle.ieee754.specs.Operations.{product, plus}
-use Rattle.ieee754.specs.Machine.{signOf}
-use Rattle.ieee754.proofs.Reading.{read-zero}
+use Rattle.operands.specs.Machine.{signOf}
+use Rattle.operands.proofs.Reading.{read-zero}
 use Rattle.multiply_add.proofs.Products.{fused-is, exact-product, product-parts, parts-pos}
 use Rattle.multiply_add.proofs.fused_zero_addend.Statement.{statement}
 use Rattle.multiply_add.proofs.fused_zero_addend.Tie as tie

@@ -5,7 +5,7 @@ use Prim.Native.Nat.{ℕ, _+_, _≤_, _<_}
 use borrow.Author.Needs.{needs}
 use native.Mathlib.Omega.{arith}
 use Rattle.rounding.proofs.Pattern.{sign-le}
-use Rattle.ieee754.specs.Machine.{magnitude}
+use Rattle.operands.specs.Machine.{magnitude}
 use Rattle.multiply_add.proofs.Sums.{beq-true}
 use Rattle.multiply_add.proofs.Special.{infinite-nan, infinite-like, infinite-unlike, infinite-finite}
 use Rattle.multiply_add.proofs.infinite_product.Statement.{statement}

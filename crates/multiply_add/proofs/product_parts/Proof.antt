@@ -3,7 +3,7 @@ use mathlib.Core.Path.{_≡_, sym, ap, _∙_}
 use Prim.Native.Nat.{ℕ, _+_, _*_, _^_}
 use borrow.Author.Needs.{needs}
 use Rattle.wide.specs.Words.{value}
-use Rattle.ieee754.proofs.Reading.{stands-just}
+use Rattle.operands.proofs.Reading.{stands-just}
 use Rattle.multiply_add.proofs.Sums.{ready-pos}
 use Rattle.multiply_add.proofs.Products.{product-ready, exponents}
 use Rattle.multiply_add.proofs.product_parts.Statement.{statement}

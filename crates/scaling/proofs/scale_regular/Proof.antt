@@ -8,7 +8,7 @@ use lib.Ieee.{ofBits, binary64}
 use borrow.Author.Needs.{needs}
 use native.Mathlib.Omega.{arith}
 use Rattle.rounding.specs.declared.Direction.the-variants.{Nearest}
-use Rattle.ieee754.specs.Machine.{signOf, scaledExponent}
+use Rattle.operands.specs.Machine.{signOf, scaledExponent}
 use Rattle.scaling.proofs.Powers.{Packs, scale-is, scaled-le, scaled-answer}
 use Rattle.scaling.proofs.scale_regular.Statement.{statement}
 use Rattle.scaling.proofs.scale_regular.Tie as tie

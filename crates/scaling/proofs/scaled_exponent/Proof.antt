@@ -3,7 +3,7 @@ use mathlib.Core.Path.{sym, ap, _∙_, subst}
 use Prim.Native.Nat.{ℕ, _+_, _-_, _≤_, _<_}
 use borrow.Author.Needs.{needs}
 use native.Mathlib.Omega.{arith}
-use Rattle.ieee754.specs.Machine.{scaledExponent}
+use Rattle.operands.specs.Machine.{scaledExponent}
 use Rattle.scaling.proofs.Exponent.{going-up, going-down}
 use Rattle.scaling.proofs.Powers.{scaled-over, scaled-up, scaled-tiny, scaled-down}
 use Rattle.scaling.proofs.scaled_exponent.Statement.{statement}

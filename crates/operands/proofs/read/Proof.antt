@@ -1,12 +1,12 @@
--- `ieee754::read` meets its contract. Assumes nothing.
+-- `operands::read` meets its contract. Assumes nothing.
 use mathlib.Core.Path.{_≡_, refl}
 use Prim.Native.Nat.{ℕ, suc, _+_, _-_, _/_}
 use borrow.Author.Needs.{needs}
 use native.Mathlib.Omega.{arith}
-use Rattle.ieee754.specs.Machine.{magnitude}
-use Rattle.ieee754.proofs.Reading.{reads-low, reads-mid}
-use Rattle.ieee754.proofs.read.Statement.{statement}
-use Rattle.ieee754.proofs.read.Tie as tie
+use Rattle.operands.specs.Machine.{magnitude}
+use Rattle.operands.proofs.Reading.{reads-low, reads-mid}
+use Rattle.operands.proofs.read.Statement.{statement}
+use Rattle.operands.proofs.read.Tie as tie
 
 one-more : (x : ℕ) → (x ≡ 0 → ⊥) → x ≡ suc (x - 1)
 one-more x n = omega arith

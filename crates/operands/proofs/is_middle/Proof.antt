@@ -1,9 +1,9 @@
--- `ieee754::is_middle` meets its contract. Assumes nothing.
+-- `operands::is_middle` meets its contract. Assumes nothing.
 use mathlib.Core.Path.{sym}
 use mathlib.Core.Bool.{true≢false}
 use borrow.Author.Needs.{needs}
-use Rattle.ieee754.proofs.is_middle.Statement.{statement}
-use Rattle.ieee754.proofs.is_middle.Tie as tie
+use Rattle.operands.proofs.is_middle.Statement.{statement}
+use Rattle.operands.proofs.is_middle.Tie as tie
 
 returns : tie.Need-returns
 returns c = λ e. absurd (true≢false (sym e))

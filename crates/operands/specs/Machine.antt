@@ -10,8 +10,8 @@ use lib.Ieee.{ofBits, binary64}
 use lib.Ieee.Exact.{HasValue}
 use Rattle.rounding.specs.declared.Direction.{Direction}
 use Rattle.rounding.specs.Machine.{signBit, Stands, Rounds}
 use Rattle.ieee754.specs.Operations.{zeroSign}
-use Rattle.ieee754.specs.declared.Parts.{Parts}
+use Rattle.operands.specs.declared.Parts.{Parts}
 
 -- ---- patterns
 

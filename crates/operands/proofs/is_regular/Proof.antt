@@ -1,11 +1,11 @@
--- `ieee754::is_regular` meets its contract. Assumes nothing.
+-- `operands::is_regular` meets its contract. Assumes nothing.
 use mathlib.Core.Path.{_≡_, sym}
 use mathlib.Core.Bool.{true≢false}
 use Prim.Native.Nat.{ℕ, _%_, _<_}
 use borrow.Author.Tests.{ltb-true, lt-ltb}
 use native.Mathlib.Omega.{arith}
-use Rattle.ieee754.proofs.is_regular.Statement.{statement}
-use Rattle.ieee754.proofs.is_regular.Tie as tie
+use Rattle.operands.proofs.is_regular.Statement.{statement}
+use Rattle.operands.proofs.is_regular.Tie as tie
 
 no : (x : ℕ) → 0 < x → x ≡ 0 → ⊥
 no x h e = omega arith

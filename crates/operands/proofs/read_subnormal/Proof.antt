@@ -1,4 +1,4 @@
--- `ieee754::read_subnormal` meets its contract. Assumes nothing.
+-- `operands::read_subnormal` meets its contract. Assumes nothing.
 use mathlib.Core.Path.{_≡_, sym, subst}
 use Prim.Native.Nat.{ℕ, _-_, _*_, _%_, _^_, _≤_, _<_}
 use native.Mathlib.Nat.{lt-of-lt-of-le, mod-eq-of-lt}
@@ -6,9 +6,9 @@ use lib.Dec.{lit≤}
 use lib.Count.{leadingZeros}
 use native.Mathlib.Omega.{arith}
 use Rattle.rounding.proofs.Leading.{Leads, leads, Fills, fills}
-use Rattle.ieee754.proofs.Reading.{raised-same}
-use Rattle.ieee754.proofs.read_subnormal.Statement.{statement}
-use Rattle.ieee754.proofs.read_subnormal.Tie as tie
+use Rattle.operands.proofs.Reading.{raised-same}
+use Rattle.operands.proofs.read_subnormal.Statement.{statement}
+use Rattle.operands.proofs.read_subnormal.Tie as tie
 
 lead : (c : tie.Start) → Leads (c .args .fraction) (leadingZeros 64 (c .args .fraction))
 lead c = leads (c .args .fraction) (c .pre .0) (lt-of-lt-of-le (c .pre .1) (lit≤ tt))

@@ -18,8 +18,8 @@ use Rattle.rounding.specs.Rounding.{roundTo}
 use Rattle.rounding.specs.Machine.{signBit, overflowBits, packed, Stands}
 use Rattle.rounding.proofs.Place.{exact, Sits, wholeAt, whole-exact}
 use Rattle.rounding.proofs.Rounding.{bits-at}
-use Rattle.ieee754.specs.Machine.{signOf, magnitude, Normal, Reads}
-use Rattle.ieee754.specs.declared.Parts.{Parts}
+use Rattle.operands.specs.Machine.{signOf, magnitude, Normal, Reads}
+use Rattle.operands.specs.declared.Parts.{Parts}
 
 ofBits-is : (b : ℕ) → ofBits binary64 b ≡ ofFields binary64 (signOf b) (magnitude b / 0x10000000000000) (b % 0x10000000000000)
 unfolding ofBits

@@ -1,10 +1,10 @@
--- `ieee754::unlike_signs` meets its contract. Assumes nothing.
+-- `operands::unlike_signs` meets its contract. Assumes nothing.
 use mathlib.Core.Path.{ap₂}
 use mathlib.Core.Bool.{Bool}
 use lib.Ieee.{unlike}
 use borrow.Author.Needs.{needs}
-use Rattle.ieee754.proofs.unlike_signs.Statement.{statement}
-use Rattle.ieee754.proofs.unlike_signs.Tie as tie
+use Rattle.operands.proofs.unlike_signs.Statement.{statement}
+use Rattle.operands.proofs.unlike_signs.Tie as tie
 
 negative-requires : tie.Need-negative-requires
 negative-requires c κs = search needs
