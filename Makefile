@@ -1,6 +1,6 @@
 # make run          the weigher on standard input and output
 # make test         the gate: the constants, the comparisons, the examples, the program from outside, layout, and rt ci
-# make archive      target/staticlib/libcapi.a, the functions of include/weigher.h for C and Rust to link
+# make archive      target/staticlib/libweigher.a, the functions of include/weigher.h for C and Rust to link
 # make bench        times the operations beside the machine's, musl's and the Rust's, and the program on whole streams beside the Rust service and cat
 # make connections  400 connections under socat, each answer compared (tests/README.md)
 # make faults       readers and peers that go or stall, signals, failing calls, 200 instances, a gigabyte of frames (tests/README.md)
@@ -36,24 +36,33 @@ constants:
 proved:
 	rt check weigher screening
 
+# rt makes an archive of one crate's own functions alone: the three are made one where ar is there.
 archive:
-	rt staticlib capi
+	rt staticlib operations_c
+	rt staticlib payloads_c
+	rt staticlib service_c
+	@if command -v ar >/dev/null; then \
+	    cd target/staticlib && \
+	    printf '%s\n' 'create libweigher.a' 'addlib liboperations_c.a' 'addlib libpayloads_c.a' 'addlib libservice_c.a' save end | ar -M; \
+	else \
+	    echo "ar is not installed: target/staticlib/libweigher.a is not made"; \
+	fi
 
 program:
 	rt check weigher
 
-# Edge cases and a million random ones of each operation, and lists of calls, where rustc is there; the score, its recorded vectors and
-# random streams where the Rust source is too.
+# Edge cases and a million random ones of each operation, and lists of calls, where rustc and ar are there; the score, its recorded
+# vectors and random streams where the Rust source is too.
 compare: archive program
-	@if command -v rustc >/dev/null; then \
+	@if command -v rustc >/dev/null && command -v ar >/dev/null; then \
 	    rt staticlib fast_fused_c && compare/build.sh && target/compare/compare run 1 && \
 	    cat crates/exp2m1_vectors/stdin crates/phase_vectors/stdin | target/compare/compare check-score-vectors && \
 	    target/compare/compare streams 2 && target/compare/compare calls 10; \
 	else \
-	    echo "rustc is not installed: nothing is compared"; \
+	    echo "rustc or ar is not installed: nothing is compared"; \
 	fi
 
-# The examples of docs/PROTOCOL.md; those in C where a compiler is there, and the Rust crate where cargo is.
+# The examples of docs/PROTOCOL.md; those in C where ar and a compiler are there, and the Rust crate where ar and cargo are.
 examples: archive program
 	tests/protocol.sh
 	tests/c.sh

@@ -51,7 +51,7 @@ pub struct Screened {
     pub number: usize,
 }
 
-#[link(name = "capi", kind = "static")]
+#[link(name = "weigher", kind = "static")]
 unsafe extern "C" {
     pub safe fn weigher_fused(a: u64, b: u64, c: u64) -> u64;
     pub safe fn weigher_round(x: u64) -> u64;

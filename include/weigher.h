@@ -1,4 +1,4 @@
-/* The weigher for C and C++, on x86-64 Linux. Link with libcapi.a.
+/* The weigher for C and C++, on x86-64 Linux. Link with libweigher.a.
  *
  * Three groups of calls: the framed service, which takes the bytes of a stream
  * in pieces of any size and answers each frame; payload and screening, for

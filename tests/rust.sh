@@ -1,8 +1,8 @@
 #!/bin/sh
 # Tests the crate in bindings/rust, and compares what its examples write. Run in the repository's root, after `make archive`.
 set -eu
-if ! command -v cargo > /dev/null; then
-    echo "cargo is not installed: bindings/rust is not tested"
+if ! { command -v cargo && command -v ar; } > /dev/null; then
+    echo "cargo or ar is not installed: bindings/rust is not tested"
     exit 0
 fi
 export RUSTFLAGS='-D warnings'

@@ -1,4 +1,4 @@
-//! Links libcapi.a, the archive of the proved functions.
+//! Links libweigher.a, the archive of the proved functions.
 
 use std::env;
 use std::path::{Path, PathBuf};
@@ -9,14 +9,14 @@ const FOLDER: &str = "WEIGHER_LIB_DIR";
 fn main() {
     println!("cargo::rerun-if-env-changed={FOLDER}");
     let folder = folder();
-    let archive = folder.join("libcapi.a");
+    let archive = folder.join("libweigher.a");
     println!("cargo::rerun-if-changed={}", archive.display());
     if archive.is_file() {
         println!("cargo::rustc-link-search=native={}", folder.display());
-        println!("cargo::rustc-link-lib=static=capi");
+        println!("cargo::rustc-link-lib=static=weigher");
     } else {
         println!(
-            "cargo::error={} is not there: run `make archive` in the weigher's repository, or set {FOLDER} to the folder of libcapi.a",
+            "cargo::error={} is not there: run `make archive` in the weigher's repository, or set {FOLDER} to the folder of libweigher.a",
             archive.display()
         );
     }

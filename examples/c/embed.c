@@ -3,7 +3,7 @@
  * In the repository's root:
  *
  *     make archive
- *     cc -I include -o target/embed examples/c/embed.c target/staticlib/libcapi.a
+ *     cc -I include -o target/embed examples/c/embed.c target/staticlib/libweigher.a
  *     target/embed
  */
 #include <stddef.h>

@@ -2,7 +2,7 @@
  * and a record whose weight is a NaN comes last, without a place. In the repository's root:
  *
  *     make archive
- *     cc -I include -o target/rank examples/c/rank.c target/staticlib/libcapi.a
+ *     cc -I include -o target/rank examples/c/rank.c target/staticlib/libweigher.a
  *     target/rank
  */
 #include <inttypes.h>

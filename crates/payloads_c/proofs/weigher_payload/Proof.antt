@@ -1,4 +1,4 @@
--- `capi::weigher_payload` meets its contract: a payload is as much shorter than its body as it starts behind the body's front. Assumes
+-- `payloads_c::weigher_payload` meets its contract: a payload is as much shorter than its body as it starts behind the body's front. Assumes
 -- nothing.
 use Prim.Native.Nat.{ℕ, _-_, _≤_}
 use mathlib.Core.Path.{_≡_, ap, _∙_}
@@ -8,8 +8,8 @@ use borrow.Author.Needs.{needs}
 use lib.ListN.{length, length-drop}
 use denote.Ref.{RefT, now}
 use Rattle.frames.specs.Part.{Part, payloadFrom}
-use Rattle.capi.proofs.weigher_payload.Statement.{statement}
-use Rattle.capi.proofs.weigher_payload.Tie as tie
+use Rattle.payloads_c.proofs.weigher_payload.Statement.{statement}
+use Rattle.payloads_c.proofs.weigher_payload.Tie as tie
 
 shorter : {payload body : RefT (List ℕ)} → Part payload body (payloadFrom (now body))
     → (length (now payload) ≤ length (now body)) × (length (now body) - length (now payload) ≡ payloadFrom (now body))

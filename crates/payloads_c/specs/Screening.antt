@@ -5,7 +5,7 @@ use mathlib.Core.List.{List}
 use Rattle.screening.specs.Screening.{Screens}
 use Rattle.screening.specs.declared.Screened.{Screened}
 use Rattle.screening.specs.declared.Screened.the-variants.{Refused, Clean, Missing}
-use Rattle.capi.specs.declared.Screening.{Screening}
+use Rattle.payloads_c.specs.declared.Screening.{Screening}
 
 -- the tag 0 comes with the refusal's number, 1 with 0, and 2 with a place
 abbrev pub encoded : Screened → Screening

@@ -1,11 +1,11 @@
--- `capi::weigher_scale` meets its contract: n comes back unchanged from the word in which it is passed. Assumes nothing.
+-- `operations_c::weigher_scale` meets its contract: n comes back unchanged from the word in which it is passed. Assumes nothing.
 use mathlib.Core.Path.{ap, _∙_}
 use mir.Syntax.{w32}
 use mir.ValLaws.{toZ-ofZ}
 use borrow.Author.Needs.{needs}
 use Rattle.ieee754.specs.Operations.{scaleBits}
-use Rattle.capi.proofs.weigher_scale.Statement.{statement}
-use Rattle.capi.proofs.weigher_scale.Tie as tie
+use Rattle.operations_c.proofs.weigher_scale.Statement.{statement}
+use Rattle.operations_c.proofs.weigher_scale.Tie as tie
 
 scale-requires : tie.Need-scale-requires
 scale-requires c κs = search needs

@@ -1,0 +1,45 @@
+// The operations for C, declared in include/weigher.h. Each function has the contract of the one it calls, for every argument.
+ghost use mathlib.Core.Path.{_≡_};
+ghost use Rattle.rounding.specs.declared.Direction.the-variants.{Nearest};
+ghost use Rattle.ieee754.specs.Operations.{fusedBits, roundBits, floorBits, scaleBits};
+ghost use Rattle.exp2m1.specs.Score.{scoreBits};
+
+// a × b + c, rounded once.
+#[no_mangle]
+pub extern "C" fn weigher_fused(a: u64, b: u64, c: u64) -> u64
+    ensures { λ r. ⌜ r ≡ fusedBits Nearest a b c ⌝ }
+{
+    multiply_add::fused(a, b, c)
+}
+
+// The nearest whole number, a tie to the even one.
+#[no_mangle]
+pub extern "C" fn weigher_round(x: u64) -> u64
+    ensures { λ r. ⌜ r ≡ roundBits x ⌝ }
+{
+    integral::round(x)
+}
+
+// The greatest whole number not above x.
+#[no_mangle]
+pub extern "C" fn weigher_floor(x: u64) -> u64
+    ensures { λ r. ⌜ r ≡ floorBits x ⌝ }
+{
+    integral::floor(x)
+}
+
+// x × 2^n, rounded once.
+#[no_mangle]
+pub extern "C" fn weigher_scale(x: u64, n: i32) -> u64
+    ensures { λ r. ⌜ r ≡ scaleBits x n ⌝ }
+{
+    scaling::scale(x, n)
+}
+
+// 2^x - 1, the score of the weight x.
+#[no_mangle]
+pub extern "C" fn weigher_score(x: u64) -> u64
+    ensures { λ r. ⌜ r ≡ scoreBits x ⌝ }
+{
+    exp2m1::score(x)
+}
