@@ -15,9 +15,6 @@ ifneq ($(memory),)
 export TMPDIR ?= $(memory)
 endif
 
-# rt waits for all checks that it has started before it starts the next ones: with more of them than processors, fewer stand idle.
-export RT_JOBS ?= 4
-
 run:
 	@rt check weigher >&2
 	@target/bin/weigher

@@ -77,7 +77,7 @@ fn times_power(k: i64, q: Pair) -> Pair
 {
     let i2 = bits_6_to_11(k);
     let i1 = bits_0_to_5(k);
-    let p = d_mul(power_tables::t2_at(i1), power_tables::t1_at(i2));
+    let p = d_mul(table_t2::t2_at(i1), table_t1::t1_at(i2));
     scale(d_mul(p, q), exponent_word(k))
 }
 
