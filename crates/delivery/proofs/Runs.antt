@@ -8,11 +8,11 @@ use lib.Seq.{length-take-le, drop-at, drop-drop}
 use borrow.Rule.Slice.PartMut.{putMid}
 use Rattle.words.proofs.Parts.{to-end, put-behind}
 use Rattle.frames.specs.Frame.{bodyLength}
+use Rattle.frames.proofs.Whole.{prefix-short, exact-is-whole}
 use Rattle.answers.specs.Answers.{answerOf}
 use Rattle.service.specs.Book.{Book, Entry, Moved, stateOf, emptyBook, move, oneMore, settled, answeredBy, bookTake}
 use Rattle.service.specs.declared.State.{State}
 use Rattle.service.proofs.Simulation.{whole-none, move-whole, move-on}
-use Rattle.demands.proofs.Partition.{prefix-short, exact-is-whole}
 use Rattle.runs.specs.Runs.{Frames, Answers}
 use Rattle.runs.specs.declared.Run.{Run}
 use Rattle.delivery.specs.Delivery.{Given, andThen, takes}

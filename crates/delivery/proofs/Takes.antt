@@ -16,8 +16,7 @@ use Rattle.service.specs.Service.{takeOf, takenOf}
 use Rattle.service.specs.declared.State.{State}
 use Rattle.service.specs.declared.Taken.{Taken}
 use Rattle.service.proofs.Memory.{answer-length}
-use Rattle.service.proofs.Simulation.{take-book, settled-short}
-use Rattle.demands.proofs.Demands.{uses-some}
+use Rattle.service.proofs.Simulation.{uses-some, take-book, settled-short}
 use Rattle.delivery.specs.Delivery.{Given, nothing, andThen, takes, deliveryOf, given, handedOnOf, Delivery}
 
 -- ---- one take of the book

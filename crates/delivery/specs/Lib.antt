@@ -1,2 +1,2 @@
 pub mod Delivery
-pub mod Streams
+pub mod Handed

@@ -2,7 +2,7 @@
 //
 // hand_on promises what Delivers of specs/Delivery.antt says: the bytes used, the answers, the state and the buffer are those of the
 // plain book, taken again and again while there is room for an answer. A nonempty piece that is not refused is used in part at least.
-// specs/Streams.antt states demand 3 for pieces that are handed on and for whole streams, and proofs/Streams.antt proves it.
+// The crate streams states demand 3 for pieces that are handed on and for whole streams, and proves it.
 ghost use mathlib.Core.Path.{_≡_};
 ghost use mathlib.Core.Bool.{false};
 ghost use lib.ListN.{length};

@@ -15,8 +15,8 @@ use Rattle.demands.specs.Stream.{Item, byte, joined, joinedFrom, movedBy
 use Rattle.demands.specs.Demands.{Demand1, Demand3, Unreached, AllLarge, handedOn, bookAfter, SameAnswers, run}
 use Rattle.service.specs.declared.State.{State}
 use Rattle.service.proofs.Memory.{answer-number, none-shows}
-use Rattle.service.proofs.Simulation.{fresh-whole, whole-none, take-book, close-book}
-use Rattle.demands.proofs.Simulation.{run-book, after-fresh, reply-after}
+use Rattle.service.proofs.Simulation.{uses-some, fresh-whole, whole-none, take-book}
+use Rattle.demands.proofs.Simulation.{close-book, run-book, after-fresh, reply-after}
 use Rattle.demands.proofs.Streams.{written-points, fresh-after, held-rest}
 use Rattle.demands.proofs.Isolation.{alike-blanked, same-answers}
 use Rattle.service.proofs.Calls.{shown-by}
@@ -51,17 +51,6 @@ book-never-7 b (Close buffer) = go (isSmall buffer) refl
     go false e = rw e (close-number (b .held) (b .memory))
 
 -- ---- pieces handed on
-
-pub uses-some : (b : Book) (x : ℕ) (p : List ℕ) → 1 ≤ bookTake b (x ∷ p) .used
-uses-some b x p = go (whole (move (b .held) (x ∷ p) .held)) refl
-  where
-    first : (t : Bool) → whole (b .held ++ (x ∷ [])) ≡ t → 1 ≤ move (b .held) (x ∷ p) .used
-    first true w = rw w (omega arith)
-    first false w = rw w (omega arith)
-
-    go : (t : Bool) → whole (move (b .held) (x ∷ p) .held) ≡ t → 1 ≤ bookTake b (x ∷ p) .used
-    go true e = rw e (first (whole (b .held ++ (x ∷ []))) refl)
-    go false e = rw e (first (whole (b .held ++ (x ∷ []))) refl)
 
 pub map-append : (xs ys : List ℕ) → map byte (xs ++ ys) ≡ map byte xs ++ map byte ys
 map-append [] ys = refl

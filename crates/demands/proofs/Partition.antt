@@ -5,8 +5,9 @@ use mathlib.Core.List.{List, [], _∷_, _++_, map, append-assoc, append-nil}
 use mathlib.Core.Bool.{Bool, true, false}
 use native.Mathlib.Omega.{arith}
 use lib.ListN.{length, length-append}
-use borrow.Author.Tests.{leb-true, leb-false, lt-leb, le-leb}
+use borrow.Author.Tests.{leb-true, leb-false, lt-leb}
 use Rattle.frames.specs.Frame.{bodyLength, whole}
+use Rattle.frames.proofs.Whole.{prefix-short, exact-is-whole}
 use Rattle.demands.specs.Stream.{Item, byte, closing, Point, frame, closed, Parts, onePoint, partedFrom, parted, spelled, Exact, Partition}
 use Rattle.partial_frame.proofs.Held.{not-past}
 use Rattle.service.proofs.Simulation.{whole-none}
@@ -40,17 +41,6 @@ part-from (closing ∷ is) h n =
 
 pub part-right : (is : List Item) → Partition is (parted is)
 part-right is = part-from is [] whole-none
-
--- what comes onePoint the end of a frame is no whole frame
-pub prefix-short : (x y : List ℕ) (b : ℕ) → length (x ++ (b ∷ y)) ≡ 2 + bodyLength (x ++ (b ∷ y)) → whole x ≡ false
-unfolding whole
-prefix-short [] y b e = refl
-prefix-short (a ∷ []) y b e = lt-leb (2 + (a * 256 + 0)) 1 (omega arith)
-prefix-short (a ∷ c ∷ x) y b e = lt-leb (2 + (a * 256 + c)) (suc (suc (length x))) (omega (arith, length-append x (b ∷ y)))
-
-pub exact-is-whole : (f : List ℕ) → length f ≡ 2 + bodyLength f → whole f ≡ true
-unfolding whole
-exact-is-whole f e = le-leb (2 + bodyLength f) (length f) (omega arith)
 
 prefix-unfinished : (x y : List ℕ) → whole (x ++ y) ≡ false → whole x ≡ false
 unfolding whole

@@ -1,13 +1,57 @@
 -- Over a list of calls the service and the plain book give the same replies, and leave the same. Assumes nothing.
+use Prim.Native.Nat.{ℕ}
 use mathlib.Core.Path.{_≡_, refl, sym, ap, _∙_}
-use mathlib.Core.List.{List, [], _∷_}
-use mathlib.Core.Bool.{false}
-use Rattle.frames.specs.Frame.{whole}
-use Rattle.service.specs.Book.{Book, emptyBook, stateOf, Call, Reply, bookCall, replyOf, bufferOf, bookReplies}
-use Rattle.service.specs.Service.{freshState, serviceCall, serviceRun, stateAfter}
+use mathlib.Core.List.{List, [], _∷_, _++_}
+use mathlib.Core.Bool.{Bool, true, false}
+use lib.ListN.{drop}
+use Rattle.frames.specs.Frame.{whole, refusalFrame}
+use Rattle.partial_frame.specs.State.{frameOf, bytesIn}
+use Rattle.service.specs.Memory.{Memory, viewOf, stateWith}
+use Rattle.service.specs.Book.{Book, emptyBook, stateOf, Call, Take, Close, Reply, move, closedWith, bookCall, replyOf, bufferOf, bookReplies, isSmall}
+use Rattle.service.specs.Service.{freshState, bookOf, closeOf, serviceCall, serviceRun, stateAfter}
 use Rattle.service.specs.declared.State.{State}
-use Rattle.service.proofs.Simulation.{call-book, held-short, fresh-whole, whole-none}
+use Rattle.service.proofs.Memory.{view-recalled}
+use Rattle.service.proofs.Simulation.{good-state, take-book, settled-short, fresh-whole, whole-none}
 use Rattle.demands.specs.Demands.{bookAfter, replyAfter}
+
+-- ---- one call
+
+close-alike : (h buffer : List ℕ) (c d : Memory) → viewOf c ≡ viewOf d → replyOf (closedWith (bytesIn (frameOf h)) c) buffer ≡ replyOf (closedWith h d) buffer
+unfolding bytesIn
+close-alike [] buffer c d l = λ i. record { used = 0; len = 0; number = 0; state = stateWith (frameOf []) (l i); buffer = buffer }
+close-alike (a ∷ []) buffer c d l = λ i. record { used = 0; len = 4; number = 8; state = stateWith (frameOf []) (l i); buffer = refusalFrame 8 ++ drop 4 buffer }
+close-alike (a ∷ b ∷ r) buffer c d l = λ i. record { used = 0; len = 4; number = 8; state = stateWith (frameOf []) (l i); buffer = refusalFrame 8 ++ drop 4 buffer }
+
+pub close-book : (h : Book) (buffer : List ℕ) → whole (h .held) ≡ false → closeOf (stateOf h) buffer ≡ replyOf (bookCall h (Close buffer)) buffer
+unfolding closeOf bookOf
+close-book h buffer n = go (isSmall buffer) refl
+  where
+    go : (t : Bool) → isSmall buffer ≡ t → closeOf (stateOf h) buffer ≡ replyOf (bookCall h (Close buffer)) buffer
+    go true e = rw e refl
+    go false e = rw (e, good-state h n) (close-alike (h .held) buffer _ (h .memory) (view-recalled (h .memory)))
+
+call-book : (c : Call) (h : Book) → whole (h .held) ≡ false → serviceCall (stateOf h) c ≡ replyOf (bookCall h c) (bufferOf c)
+call-book (Take p buffer) h n = take-book h p buffer n
+call-book (Close buffer) h n = close-book h buffer n
+
+close-short : (h : List ℕ) (c : Memory) → whole (closedWith h c .book .held) ≡ false
+close-short [] c = whole-none
+close-short (b ∷ h) c = whole-none
+
+-- between calls the book holds less than a whole frame
+pub held-short : (c : Call) (h : Book) → whole (h .held) ≡ false → whole (bookCall h c .book .held) ≡ false
+held-short (Take p buffer) h n = go (isSmall buffer) refl
+  where
+    go : (t : Bool) → isSmall buffer ≡ t → whole (bookCall h (Take p buffer) .book .held) ≡ false
+    go true e = rw e n
+    go false e = rw e (settled-short (move (h .held) p) (h .memory))
+held-short (Close buffer) h n = go (isSmall buffer) refl
+  where
+    go : (t : Bool) → isSmall buffer ≡ t → whole (bookCall h (Close buffer) .book .held) ≡ false
+    go true e = rw e n
+    go false e = rw e (close-short (h .held) (h .memory))
+
+-- ---- a list of calls
 
 pub run-book : (cs : List Call) (h : Book) → whole (h .held) ≡ false → serviceRun (stateOf h) cs ≡ bookReplies h cs
 run-book [] h n = refl

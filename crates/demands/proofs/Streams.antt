@@ -15,7 +15,8 @@ use Rattle.demands.specs.Stream.{Item, byte, movedBy, joinedFrom, Point,
 use Rattle.service.specs.Service.{freshState}
 use Rattle.demands.specs.Demands.{bookAfter}
 use Rattle.partial_frame.proofs.Held.{empty-held}
-use Rattle.service.proofs.Simulation.{held-short, move-whole, move-on}
+use Rattle.service.proofs.Simulation.{move-whole, move-on}
+use Rattle.demands.proofs.Simulation.{held-short}
 
 -- what comes after the movedBy bytes is parted from where the book then stands
 abbrev after : Moved → List Item → Parts

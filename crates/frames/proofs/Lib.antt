@@ -1,2 +1,3 @@
 pub mod Items
 pub mod Refusals
+pub mod Whole

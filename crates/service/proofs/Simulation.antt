@@ -1,18 +1,19 @@
--- The service over states and the plain book over bytes give the same replies: two runs of bytes that leave one state go on alike.
--- Assumes nothing.
+-- take over states and over the plain book's bytes gives the same reply: two runs of bytes that leave one state go on alike. Assumes
+-- nothing.
 use Prim.Native.Nat.{ℕ, suc, _+_, _≤_}
 use mathlib.Core.Path.{_≡_, refl, sym, ap, _∙_}
 use mathlib.Core.List.{List, [], _∷_, _++_}
 use mathlib.Core.Bool.{Bool, true, false}
+use native.Mathlib.Omega.{arith}
 use lib.ListN.{length, drop}
-use Rattle.frames.specs.Frame.{bodyLength, whole, refusalFrame}
+use Rattle.frames.specs.Frame.{bodyLength, whole}
 use Rattle.answers.specs.Answers.{Answer}
 use Rattle.partial_frame.specs.State.{frameOf, bytesIn}
 use Rattle.service.specs.Memory.{Memory, View, startMemory, viewOf, stateWith, answerWith}
 use Rattle.partial_frame.specs.declared.PartialFrame.{PartialFrame}
 use Rattle.service.proofs.Memory.{answer-alike, remembered-alike, view-recalled, view-good}
-use Rattle.service.specs.Book.{Book, emptyBook, stateOf, Call, Take, Close, Entry, Moved, Reply, move, oneMore, settled, answeredBy, closedWith, bookCall, replyOf, bufferOf, isSmall}
-use Rattle.service.specs.Service.{freshState, isGood, bookOf, takeOf, closeOf, serviceCall}
+use Rattle.service.specs.Book.{Book, emptyBook, stateOf, Take, Entry, Moved, Reply, move, oneMore, settled, answeredBy, bookTake, bookCall, replyOf, isSmall}
+use Rattle.service.specs.Service.{freshState, isGood, bookOf, takeOf}
 use Rattle.partial_frame.specs.Steps.{afterByte, wholeIn}
 use Rattle.service.specs.declared.State.{State}
 use Rattle.partial_frame.proofs.Held.{byte-held, whole-held, not-past, empty-held}
@@ -55,6 +56,17 @@ move-whole p h b w = rw w refl
 pub move-on : (p h : List ℕ) (b : ℕ) → whole (h ++ (b ∷ [])) ≡ false → move h (b ∷ p) ≡ oneMore (move (h ++ (b ∷ [])) p)
 move-on p h b w = rw w refl
 
+pub uses-some : (b : Book) (x : ℕ) (p : List ℕ) → 1 ≤ bookTake b (x ∷ p) .used
+uses-some b x p = go (whole (move (b .held) (x ∷ p) .held)) refl
+  where
+    first : (t : Bool) → whole (b .held ++ (x ∷ [])) ≡ t → 1 ≤ move (b .held) (x ∷ p) .used
+    first true w = rw w (omega arith)
+    first false w = rw w (omega arith)
+
+    go : (t : Bool) → whole (move (b .held) (x ∷ p) .held) ≡ t → 1 ≤ bookTake b (x ∷ p) .used
+    go true e = rw e (first (whole (b .held ++ (x ∷ []))) refl)
+    go false e = rw e (first (whole (b .held ++ (x ∷ []))) refl)
+
 settled-whole : (f : List ℕ) (c : Memory) → whole f ≡ true → shown (settled (record { held = f; used = 1 }) c) ≡ shown (answeredBy (answerWith (viewOf c) f) 1 f c)
 settled-whole f c w = rw w refl
 
@@ -93,7 +105,7 @@ pub good-state : (b : Book) → whole (b .held) ≡ false → isGood (stateOf b)
 unfolding isGood
 good-state b n = rw (reach-held (b .held) n, view-good (b .memory)) refl
 
--- refusals 6 and 7 aside, the service from the state of h is the book from h
+-- refusals 6 and 7 aside, take from the state of h is the book from h
 pub take-book : (h : Book) (p buffer : List ℕ) → whole (h .held) ≡ false → takeOf (stateOf h) p buffer ≡ replyOf (bookCall h (Take p buffer)) buffer
 unfolding takeOf bookOf
 take-book h p buffer n = go (isSmall buffer) refl
@@ -105,12 +117,6 @@ take-book h p buffer n = go (isSmall buffer) refl
         (ap (replyOfShown buffer)
         (take-alike p (bytesIn (frameOf (h .held))) (h .held) _ (h .memory) (held-alike (h .held) n) (view-recalled (h .memory)) (held-unfinished (h .held) n)))
 
-close-alike : (h : List ℕ) (c d : Memory) → viewOf c ≡ viewOf d → shown (closedWith (bytesIn (frameOf h)) c) ≡ shown (closedWith h d)
-unfolding bytesIn
-close-alike [] c d l = λ i. record { used = 0; answer = []; number = 0; state = stateWith (frameOf []) (l i) }
-close-alike (a ∷ []) c d l = λ i. record { used = 0; answer = refusalFrame 8; number = 8; state = stateWith (frameOf []) (l i) }
-close-alike (a ∷ b ∷ r) c d l = λ i. record { used = 0; answer = refusalFrame 8; number = 8; state = stateWith (frameOf []) (l i) }
-
 pub whole-none : whole [] ≡ false
 unfolding whole
 whole-none = refl
@@ -121,35 +127,6 @@ settled-short m c = go (whole (m .held)) refl
     go : (t : Bool) → whole (m .held) ≡ t → whole (settled m c .book .held) ≡ false
     go true e = rw e whole-none
     go false e = rw e e
-
-close-short : (h : List ℕ) (c : Memory) → whole (closedWith h c .book .held) ≡ false
-close-short [] c = whole-none
-close-short (b ∷ h) c = whole-none
-
-pub close-book : (h : Book) (buffer : List ℕ) → whole (h .held) ≡ false → closeOf (stateOf h) buffer ≡ replyOf (bookCall h (Close buffer)) buffer
-unfolding closeOf bookOf
-close-book h buffer n = go (isSmall buffer) refl
-  where
-    go : (t : Bool) → isSmall buffer ≡ t → closeOf (stateOf h) buffer ≡ replyOf (bookCall h (Close buffer)) buffer
-    go true e = rw e refl
-    go false e = rw (e, good-state h n) (ap (replyOfShown buffer) (close-alike (h .held) _ (h .memory) (view-recalled (h .memory))))
-
-pub call-book : (c : Call) (h : Book) → whole (h .held) ≡ false → serviceCall (stateOf h) c ≡ replyOf (bookCall h c) (bufferOf c)
-call-book (Take p buffer) h n = take-book h p buffer n
-call-book (Close buffer) h n = close-book h buffer n
-
--- between calls the book holds less than a whole frame
-pub held-short : (c : Call) (h : Book) → whole (h .held) ≡ false → whole (bookCall h c .book .held) ≡ false
-held-short (Take p buffer) h n = go (isSmall buffer) refl
-  where
-    go : (t : Bool) → isSmall buffer ≡ t → whole (bookCall h (Take p buffer) .book .held) ≡ false
-    go true e = rw e n
-    go false e = rw e (settled-short (move (h .held) p) (h .memory))
-held-short (Close buffer) h n = go (isSmall buffer) refl
-  where
-    go : (t : Bool) → isSmall buffer ≡ t → whole (bookCall h (Close buffer) .book .held) ≡ false
-    go true e = rw e n
-    go false e = rw e (close-short (h .held) (h .memory))
 
 pub fresh-whole : stateOf emptyBook ≡ freshState
 fresh-whole = ap (λ (p : PartialFrame). stateWith p (viewOf startMemory)) empty-held

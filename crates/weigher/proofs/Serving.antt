@@ -11,7 +11,7 @@ use Rattle.service.specs.Book.{Reply}
 use Rattle.service.specs.Service.{isGood}
 use Rattle.service.specs.declared.State.{State}
 use Rattle.delivery.specs.Delivery.{handOn, Delivers}
-use Rattle.delivery.specs.Streams.{front, Handed, behind, handed, handedToEnd}
+use Rattle.delivery.specs.Handed.{front, Handed, behind, handed, handedToEnd}
 use Rattle.delivery.specs.declared.HandedOn.{HandedOn}
 use Rattle.delivery.proofs.Takes.{more-turns}
 use Rattle.weigher.specs.Serve.{Serves}

@@ -5,7 +5,7 @@ use mathlib.Core.Bool.{true}
 use Prim.Native.Nat.{ℕ}
 use Rattle.service.specs.Service.{isGood}
 use Rattle.service.specs.declared.State.{State}
-use Rattle.delivery.specs.Streams.{handedToEnd}
+use Rattle.delivery.specs.Handed.{handedToEnd}
 use Rattle.weigher.specs.declared.Served.{Served}
 
 -- the state stays good; where the output took all answers, the piece was handed on to its end

@@ -15,7 +15,7 @@ ghost use Rattle.service.specs.Service.{isGood};
 ghost use Rattle.weigher.specs.Serve.{Serves};
 
 // Room for the answers to one read of 65,536 bytes, so that one write follows it: twice its bytes and two answers (`once` of
-// crates/delivery/specs/Streams.antt). A frame of two bytes has four of answer, and the first frame may have come in part before.
+// crates/streams/specs/Streams.antt). A frame of two bytes has four of answer, and the first frame may have come in part before.
 const ANSWERS: usize = 2 * 65536 + 2 * ANSWER_ROOM;
 
 fn answer_space() -> [u8; ANSWERS]
@@ -71,7 +71,7 @@ struct Served {
 }
 
 // Hands a piece on to its end, and writes every answer. Its promise, Serves of specs/Serve.antt, is one step of outputOf of
-// crates/delivery/specs/Streams.antt, which is shown to be the answers to the frames of all that was read.
+// crates/streams/specs/Streams.antt, which is shown to be the answers to the frames of all that was read.
 fn serve(state: State, piece: &[u8], space: &mut [u8]) -> Served
     requires { ⌜ (isGood state ≡ true) × (answerRoom ≤ length (now space)) ⌝ }
     ensures { λ r. ⌜ Serves state (now (piece .entry)) (now (space .entry)) r (now (space .exit)) ⌝ }

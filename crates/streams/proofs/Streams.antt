@@ -13,16 +13,17 @@ use Rattle.service.specs.Book.{Book, emptyBook, Call, Close, Reply, stateOf, bo
 use Rattle.demands.specs.Stream.{Item, byte, closing, joined, joinedFrom, parted, answersFrom, written}
 use Rattle.demands.specs.Demands.{bookAfter, handedOn}
 use Rattle.service.specs.declared.State.{State}
-use Rattle.service.proofs.Simulation.{close-book, fresh-whole, whole-none}
-use Rattle.demands.proofs.Simulation.{after-unfinished, after-fresh}
+use Rattle.service.proofs.Simulation.{fresh-whole, whole-none}
+use Rattle.demands.proofs.Simulation.{close-book, after-unfinished, after-fresh}
 use Rattle.demands.proofs.Streams.{written-points}
 use Rattle.demands.proofs.Demands.{demand-3, map-append, joined-append}
 use Rattle.delivery.specs.Delivery.{Given, deliveryOf, given, handOn}
-use Rattle.delivery.specs.Streams.{front, Handed, behind, handed, handedToEnd, outputOf, ByTakes, Streams}
+use Rattle.delivery.specs.Handed.{front, Handed, behind, handed, handedToEnd}
+use Rattle.streams.specs.Streams.{outputOf, ByTakes, Streams}
 use Rattle.delivery.proofs.Promises.{Reached, takes-reached, delivery-uses}
-use Rattle.delivery.proofs.Room.{takes-most}
-use Rattle.delivery.proofs.Alike.{front-answer, hand-on-book}
-use Rattle.delivery.proofs.Calls.{after-append, answersTo, answers-append, answers-cons, Calls, no-calls, more-calls, takes-calls, takes-stop}
+use Rattle.streams.proofs.Room.{takes-most}
+use Rattle.streams.proofs.Alike.{front-answer, hand-on-book}
+use Rattle.streams.proofs.Calls.{after-append, answersTo, answers-append, answers-cons, Calls, no-calls, more-calls, takes-calls, takes-stop}
 
 -- ---- hand_on, once and repeated, from the state of a book
 

@@ -15,9 +15,9 @@ use Rattle.service.specs.Service.{bookOf, takeOf}
 use Rattle.service.specs.declared.State.{State}
 use Rattle.service.proofs.Memory.{view-recalled}
 use Rattle.service.proofs.Simulation.{good-state}
 use Rattle.delivery.specs.Delivery.{Given, takes, deliveryOf, given, handOn}
-use Rattle.delivery.specs.Streams.{front}
+use Rattle.delivery.specs.Handed.{front}
 use Rattle.delivery.proofs.Takes.{take-reply, take-unfinished}
 
 -- what a caller sees of a delivery
 record Same (g h : Given) : Type 0 where

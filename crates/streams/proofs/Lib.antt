@@ -1,0 +1,4 @@
+pub mod Room
+pub mod Alike
+pub mod Calls
+pub mod Streams
