@@ -1,14 +1,14 @@
-// The present frame of the service: its bytes so far, taken in from a piece, and the test whether any bytes leave what is held.
+// The present frame of the service: its bytes so far, and the test whether any bytes leave what is held. The crate `pieces` takes bytes in.
 //
 // specs/State.antt says what is held for the bytes of a frame, and specs/Steps.antt how it goes on byte by byte.
 ghost use mathlib.Core.Path.{_≡_};
-ghost use mathlib.Core.Bool.{true, false, _||_};
-ghost use Prim.Native.Nat.{_≤_, _<_};
+ghost use mathlib.Core.Bool.{_||_};
+ghost use Prim.Native.Nat.{_<_};
 ghost use lib.Dec.{eqb};
-ghost use lib.ListN.{length, drop};
+ghost use lib.ListN.{drop};
 ghost use Rattle.frames.specs.Frame.{kept};
 ghost use Rattle.partial_frame.specs.State.{emptyFrame, lengthIn, filled, allZero, isLeft};
-ghost use Rattle.partial_frame.specs.Steps.{wholeIn, afterByte, advance, further, Begun};
+ghost use Rattle.partial_frame.specs.Steps.{wholeIn};
 use frames::LONGEST_BODY;
 
 // The present frame: how many of its bytes have come, its length bytes, and its body so far. Places not yet filled hold 0, and a body
@@ -52,144 +52,19 @@ pub fn body_length(frame: PartialFrame) -> usize
     wide(frame.hi) * 256 + wide(frame.lo)
 }
 
-fn is_whole(frame: PartialFrame) -> bool
+pub fn is_whole(frame: PartialFrame) -> bool
     ensures { λ r. ⌜ r ≡ wholeIn frame ⌝ }
 {
     2 + body_length(frame) <= frame.count
 }
 
-fn is_kept(n: usize) -> bool
+pub fn is_kept(n: usize) -> bool
     ensures { λ r. ⌜ r ≡ kept n ⌝ }
 {
     if n < 2 {
         return false;
     }
     n <= LONGEST_BODY
-}
-
-// ---- the bytes of a piece
-
-// One byte more, where it is a length byte.
-fn with_length_byte(frame: PartialFrame, b: u8) -> PartialFrame
-    requires { ⌜ frame .count < 2 ⌝ }
-    ensures { λ r. ⌜ r ≡ afterByte frame b ⌝ }
-{
-    let mut next = frame;
-    if frame.count == 0 {
-        next.hi = b;
-        next.count = 1;
-        return next;
-    }
-    next.lo = b;
-    next.count = 2;
-    next
-}
-
-// The length bytes that have not come.
-fn take_length(frame: PartialFrame, piece: &[u8]) -> Progress
-    requires { ⌜ wholeIn frame ≡ false ⌝ }
-    ensures { λ r. ⌜ Begun frame (now (piece .entry)) r ⌝ }
-{
-    let mut frame = frame;
-    let mut used = 0;
-    while used < piece.len() {
-        if 2 <= frame.count {
-            return Progress {
-                frame,
-                used,
-                whole: false,
-            };
-        }
-        frame = with_length_byte(frame, piece[used]);
-        used += 1;
-        if is_whole(frame) {
-            return Progress {
-                frame,
-                used,
-                whole: true,
-            };
-        }
-    }
-    Progress {
-        frame,
-        used,
-        whole: false,
-    }
-}
-
-// The bytes of a body that is kept. The fields are written in the loop: a call by value for each byte would copy the state.
-fn take_body(frame: PartialFrame, piece: &[u8], from: usize) -> Progress
-    requires { ⌜ (wholeIn frame ≡ false) × (2 ≤ frame .count) × (kept (lengthIn frame) ≡ true) × (from ≤ length (now piece)) ⌝ }
-    ensures { λ r. ⌜ r ≡ further from (advance frame (drop from (now (piece .entry)))) ⌝ }
-{
-    let end = 2 + body_length(frame);
-    let mut frame = frame;
-    let mut used = from;
-    while used < piece.len() {
-        let n = frame.count;
-        let at = n - 2;
-        frame.body[at] = piece[used];
-        frame.count = n + 1;
-        used += 1;
-        if end <= n + 1 {
-            return Progress {
-                frame,
-                used,
-                whole: true,
-            };
-        }
-    }
-    Progress {
-        frame,
-        used,
-        whole: false,
-    }
-}
-
-// The bytes of a body that is not kept: they are counted.
-fn skip_body(frame: PartialFrame, piece: &[u8], from: usize) -> Progress
-    requires { ⌜ (wholeIn frame ≡ false) × (2 ≤ frame .count) × (kept (lengthIn frame) ≡ false) × (from ≤ length (now piece)) ⌝ }
-    ensures { λ r. ⌜ r ≡ further from (advance frame (drop from (now (piece .entry)))) ⌝ }
-{
-    let end = 2 + body_length(frame);
-    let n = frame.count;
-    let missing = end - n;
-    let left = piece.len() - from;
-    let mut frame = frame;
-    if left < missing {
-        frame.count = n + left;
-        return Progress {
-            frame,
-            used: piece.len(),
-            whole: false,
-        };
-    }
-    frame.count = end;
-    Progress {
-        frame,
-        used: from + missing,
-        whole: true,
-    }
-}
-
-// Takes bytes off the piece's front, up to the end of the frame or of the piece.
-pub fn take_bytes(frame: PartialFrame, piece: &[u8]) -> Progress
-    requires { ⌜ wholeIn frame ≡ false ⌝ }
-    ensures { λ r. ⌜ r ≡ advance frame (now (piece .entry)) ⌝ }
-{
-    let begun = take_length(frame, piece);
-    if begun.whole {
-        return begun;
-    }
-    let frame = begun.frame;
-    let used = begun.used;
-    if used < piece.len() {
-        if is_kept(body_length(frame)) {
-            return take_body(frame, piece, used);
-        }
-        return skip_body(frame, piece, used);
-    }
-    begun
 }
 
 // ---- which states a run of bytes leaves

@@ -68,7 +68,7 @@ fn take_good(state: State, piece: &[u8], answer: &mut [u8]) -> Taken
     requires { ⌜ (state ≡ stateOf (bookOf state)) × (whole (bookOf state .held) ≡ false) × (answerRoom ≤ length (now answer)) ⌝ }
     ensures { λ r. ⌜ (r ≡ takenOf (takeOf state (now (piece .entry)) (now (answer .entry)))) × (now (answer .exit) ≡ takeOf state (now (piece .entry)) (now (answer .entry)) .buffer) ⌝ }
 {
-    let progress = partial_frame::take_bytes(state.frame, piece);
+    let progress = pieces::take_bytes(state.frame, piece);
     let frame = progress.frame;
     if progress.whole {
         let answered = answer_whole(frame, answer);

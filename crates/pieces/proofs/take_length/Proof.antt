@@ -1,13 +1,13 @@
--- `partial_frame::take_length` meets its contract: the bytes taken so far are the first of the steps. Assumes nothing.
+-- `pieces::take_length` meets its contract: the bytes taken so far are the first of the steps. Assumes nothing.
 use Prim.Native.Nat.{_-_, _≤_}
 use mathlib.Core.Path.{_≡_, sym, _∙_}
 use mathlib.Core.Bool.{false, false≢true, true≢false}
 use native.Mathlib.Omega.{arith}
 use lib.ListN.{length, drop}
 use Rattle.partial_frame.specs.Steps.{wholeIn, further, advance}
 use Rattle.partial_frame.proofs.Loops.{advance-none, turn-on, turn-full}
-use Rattle.partial_frame.proofs.take_length.Statement.{statement}
-use Rattle.partial_frame.proofs.take_length.Tie as tie
+use Rattle.pieces.proofs.take_length.Statement.{statement}
+use Rattle.pieces.proofs.take_length.Tie as tie
 
 abbrev Inv-loop : tie.InvT-loop
 Inv-loop piece frame₀ used₀ frame used = (used ≤ length piece) × (wholeIn frame ≡ false) × (advance frame₀ piece ≡ further used (advance frame (drop used piece)))

@@ -1,10 +1,10 @@
--- `partial_frame::skip_body` meets its contract: of a body that is not kept the bytes are only counted. Assumes nothing.
+-- `pieces::skip_body` meets its contract: of a body that is not kept the bytes are only counted. Assumes nothing.
 use native.Mathlib.Omega.{arith}
 use Rattle.partial_frame.proofs.Loops.{short-count}
 use Rattle.partial_frame.proofs.Skipped.{skipped-all, skipped-to-end}
 use borrow.Author.Needs.{needs}
-use Rattle.partial_frame.proofs.skip_body.Statement.{statement}
-use Rattle.partial_frame.proofs.skip_body.Tie as tie
+use Rattle.pieces.proofs.skip_body.Statement.{statement}
+use Rattle.pieces.proofs.skip_body.Tie as tie
 
 body-length-requires : tie.Need-body-length-requires
 body-length-requires c κs = search needs

@@ -1,9 +1,9 @@
--- `partial_frame::with_length_byte` meets its contract. Assumes nothing.
+-- `pieces::with_length_byte` meets its contract. Assumes nothing.
 use mathlib.Core.Path.{_≡_, refl}
 use native.Mathlib.Omega.{arith}
 use Rattle.partial_frame.specs.Steps.{afterByte}
-use Rattle.partial_frame.proofs.with_length_byte.Statement.{statement}
-use Rattle.partial_frame.proofs.with_length_byte.Tie as tie
+use Rattle.pieces.proofs.with_length_byte.Statement.{statement}
+use Rattle.pieces.proofs.with_length_byte.Tie as tie
 
 returns : tie.Need-returns
 unfolding afterByte

@@ -1,11 +1,11 @@
--- `partial_frame::take_body` meets its contract: each turn is one byte more of a body that is kept. Assumes nothing.
+-- `pieces::take_body` meets its contract: each turn is one byte more of a body that is kept. Assumes nothing.
 use Prim.Native.Nat.{_-_}
 use native.Mathlib.Omega.{arith}
 use lib.ListN.{length}
 use Rattle.frames.proofs.Refusals.{kept-bounds}
 use Rattle.partial_frame.proofs.Loops.{Going, going, going-out, going-ended, going-on, byte-kept}
-use Rattle.partial_frame.proofs.take_body.Statement.{statement}
-use Rattle.partial_frame.proofs.take_body.Tie as tie
+use Rattle.pieces.proofs.take_body.Statement.{statement}
+use Rattle.pieces.proofs.take_body.Tie as tie
 
 abbrev Inv-loop : tie.InvT-loop
 Inv-loop piece from end frame₀ used₀ frame used = Going piece from end frame₀ used frame

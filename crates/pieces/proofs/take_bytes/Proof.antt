@@ -1,11 +1,11 @@
--- `partial_frame::take_bytes` meets its contract: the length bytes, and then the body, kept or not. Assumes nothing.
+-- `pieces::take_bytes` meets its contract: the length bytes, and then the body, kept or not. Assumes nothing.
 use mathlib.Core.Path.{sym, ap, _∙_}
 use mathlib.Core.Bool.{Bool}
 use Rattle.frames.specs.Frame.{kept}
 use Rattle.partial_frame.proofs.Loops.{advance-end}
 use borrow.Author.Needs.{needs}
-use Rattle.partial_frame.proofs.take_bytes.Statement.{statement}
-use Rattle.partial_frame.proofs.take_bytes.Tie as tie
+use Rattle.pieces.proofs.take_bytes.Statement.{statement}
+use Rattle.pieces.proofs.take_bytes.Tie as tie
 
 take-length-requires : tie.Need-take-length-requires
 take-length-requires c κs = search needs
