@@ -1,13 +1,1 @@
--- Why the pairs are exact, from whole numbers up to floats.
-pub mod Multiples
-pub mod Precision
-pub mod ErrorFree
-pub mod Signed
-pub mod Units
-pub mod TwoSum
-pub mod Nearest
-pub mod TwoProduct
-pub mod Scaled
-pub mod Dekker
-pub mod Split
 pub mod Chains

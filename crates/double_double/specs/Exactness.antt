@@ -1,32 +1,14 @@
 -- What it means that hi + lo is exactly a sum or a product (document 01, "Pairs"): equations between whole numbers, since every finite value of a format is a
--- whole number of the format's smallest value, 2 ^ -1074 for binary64. Definitions only.
+-- whole number of the format's smallest value, 2 ^ -1074 for binary64 (`value`, and `magnitude` without the sign). Definitions only.
 use mathlib.Core.Path.{_≡_}
 use mathlib.Core.Logic.{_⊎_}
-use Prim.Native.Nat.{ℕ, _*_, _/_, _^_, _≤_}
-use mathlib.Core.Bool.{Bool, true, false}
-use lib.IntN.{ℤ, pos, negℤ, _+ℤ_, _*ℤ_}
+use Prim.Native.Nat.{_*_, _^_, _≤_}
+use lib.IntN.{pos, _+ℤ_, _*ℤ_}
 use lib.Dec.{T}
-use lib.Ieee.{Float, nan, inf, fin, Format, binary64, low, up, down}
+use lib.Ieee.{Float, binary64}
 use lib.Ieee.Scale.{finite}
+use Rattle.exactness.specs.Values.{magnitude, value}
 use Rattle.pair.specs.declared.Pair.{Pair}
-
--- the size in units of the format's smallest value; 0 for a NaN and an infinity
-abbrev pub magnitude : Format → Float → ℕ
-magnitude f nan = 0
-magnitude f (inf s) = 0
-magnitude f (fin s m e) = m * up e * 2 ^ low f / down e
-
-abbrev pub sign : Float → Bool
-sign nan = false
-sign (inf s) = s
-sign (fin s m e) = s
-
-abbrev pub signed : Bool → ℕ → ℤ
-signed true n = negℤ (pos n)
-signed false n = pos n
-
-abbrev pub value : Format → Float → ℤ
-value f x = signed (sign x) (magnitude f x)
 
 -- hi + lo is exactly a + b, in units of 2 ^ -1074, where a and b are finite, b is not larger in size than a, and hi is finite
 abbrev pub SumExact : Float → Float → Pair → Type 0

@@ -1,4 +1,3 @@
 -- What the contracts of this crate say.
 pub mod Pairs
 pub mod Exactness
-pub mod Machine

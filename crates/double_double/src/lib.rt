@@ -3,18 +3,15 @@
 // Each function promises the pair that the definition of its name in specs/Pairs.antt gives for the same operands.
 // fast_two_sum and a_mul also promise where nothing is lost (specs/Exactness.antt). In a product lo stays a pattern until its last step.
 
+use dekker::dekker_error;
 use operands::field;
 use operands::is_middle;
 use pair::Pair;
 ghost use mathlib.Core.Path.{_≡_};
-ghost use mathlib.Core.Bool.{not};
-ghost use lib.Dec.{T};
-ghost use lib.Ieee.{binary64, mul, neg, isNan};
-ghost use Rattle.operands.specs.Machine.{fieldOf, Middle};
+ghost use lib.Ieee.{binary64, mul, neg};
 ghost use Rattle.pair.specs.Pair.{bits};
 ghost use Rattle.double_double.specs.Pairs.{fma, fastTwoSum, fastSum, aMul, sMul, dMul};
 ghost use Rattle.double_double.specs.Exactness.{SumExact, ProductExact};
-ghost use Rattle.double_double.specs.Machine.{highHalf};
 
 // Add a + b, assuming |a| >= |b|.
 pub fn fast_two_sum(a: f64, b: f64) -> Pair
@@ -71,28 +68,6 @@ pub fn a_mul(a: f64, b: f64) -> Pair
     let lo = error_bits(a, b, hi);
     let lo = math::from_bits(lo);
     Pair { hi, lo }
-}
-
-// ---- the remainder of a product
-
-// The high half of the number with the pattern x: the number rounded to 26 digits (Veltkamp).
-fn high_half(x: u64) -> f64
-    requires { ⌜ Middle (fieldOf x) ⌝ }
-    ensures { λ r. ⌜ r ≡ bits (highHalf x) ⌝ }
-{
-    f64::from_bits((x + 0x4000000) / 0x8000000 * 0x8000000)
-}
-
-// a * b - hi, where a and b have the patterns x and y (Dekker): with products of halves every step is exact.
-fn dekker_error(a: f64, b: f64, hi: f64, x: u64, y: u64) -> f64
-    requires { ⌜ (bits x ≡ a) × (bits y ≡ b) × Middle (fieldOf x) × Middle (fieldOf y) × (hi ≡ mul binary64 a b) ⌝ }
-    ensures { λ r. ⌜ (r ≡ fma a b (neg hi)) × T (not (isNan r)) ⌝ }
-{
-    let ah = high_half(x);
-    let bh = high_half(y);
-    let al = a - ah;
-    let bl = b - bh;
-    ah * bh - hi + ah * bl + al * bh + al * bl
 }
 
 // The pattern of a * b - hi, where hi is a * b rounded. Far from both ends of the exponents f64 operations will do, and that is quicker.

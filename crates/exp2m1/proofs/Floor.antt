@@ -22,8 +22,8 @@ use Rattle.rounding.specs.Rounding.{whole, bounded, roundTo}
 use Rattle.rounding.proofs.Place.{exact, Sits, whole-at, whole-exact}
 use Rattle.ieee754.specs.Operations.{roundToIntegral}
 use Rattle.pair.specs.Pair.{bits}
-use Rattle.double_double.proofs.Multiples.{coarser}
-use Rattle.double_double.proofs.Units.{has-finite}
+use Rattle.exactness.proofs.Multiples.{coarser}
+use Rattle.exactness.proofs.Units.{has-finite}
 use Rattle.exponential.specs.Range.{Between, above, below, most, deepest}
 use Rattle.exp2m1.specs.Range.{Whole, natural, negative}
 

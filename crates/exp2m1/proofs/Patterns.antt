@@ -14,7 +14,7 @@ use lib.Ieee.Exact.{HasValue, odd-sign}
 use lib.Ieee.Order.{le-of-values}
 use lib.Ieee.Bits.{ofBits-toBits, toBits-lt, nanBits-is, nanBits-above}
 use Rattle.pair.specs.Pair.{bits}
-use Rattle.double_double.proofs.Multiples.{either-order}
+use Rattle.exactness.proofs.Multiples.{either-order}
 use Rattle.exponential.specs.Range.{Between, above, below, most, deepest}
 use Rattle.exp2m1.specs.Range.{Bounded}
 

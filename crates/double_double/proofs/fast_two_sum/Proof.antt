@@ -3,7 +3,7 @@ use mathlib.Core.Path.{refl, sym, subst}
 use lib.Dec.{T}
 use lib.Ieee.{binary64}
 use Rattle.double_double.specs.Pairs.{fastTwoSum}
-use Rattle.double_double.proofs.TwoSum.{two-sum-exact}
+use Rattle.exactness.proofs.TwoSum.{two-sum-exact}
 use Rattle.double_double.proofs.fast_two_sum.Statement.{statement}
 use Rattle.double_double.proofs.fast_two_sum.Tie as tie
 

@@ -10,18 +10,17 @@ use mathlib.Core.Bool.{Bool, false, not}
 use lib.IntN.{ℤ, pos, _+ℤ_, _*ℤ_}
 use lib.Dec.{T}
 use lib.Pow.{pow-add, pow-pos, pow-mono}
-use lib.Ieee.{Float, fin, Format, binary64, prec, low, emax, up, down, unlike, mul, neg, sum, round, fits}
+use lib.Ieee.{Float, fin, Format, prec, low, emax, up, down, unlike, mul, neg, sum, round, fits}
 use lib.Ieee.Fits.{two, two-le-pos, down-pos}
 use lib.Ieee.Exact.{HasValue}
 use lib.Ieee.Scale.{round-same, finite, overflow}
-use Rattle.double_double.specs.Pairs.{aMul}
-use Rattle.double_double.specs.Exactness.{magnitude, sign, signed, value, ProductExact}
-use Rattle.double_double.proofs.Multiples.{distance, pow-dvd}
-use Rattle.double_double.proofs.Precision.{toDigits, Representable, rep-zero, rep-as, toDigits-keeps}
-use Rattle.double_double.proofs.ErrorFree.{wide-rest, wide-error-le}
-use Rattle.double_double.proofs.Signed.{posPart, negPart, IsDifference, apart-is, balance, unlike-false, two-is-one, signed-mul}
-use Rattle.double_double.proofs.Units.{sum-round, sum-same, neg-is, round-under, round-toDigits, round-keeps, in-units, values-sum, has-finite}
-use Rattle.double_double.proofs.Nearest.{fused, fused-nearest}
+use Rattle.exactness.specs.Values.{magnitude, sign, signed, value}
+use Rattle.exactness.proofs.Multiples.{distance, pow-dvd}
+use Rattle.exactness.proofs.Precision.{toDigits, Representable, rep-zero, rep-as, toDigits-keeps}
+use Rattle.exactness.proofs.ErrorFree.{wide-rest, wide-error-le}
+use Rattle.exactness.proofs.Signed.{posPart, negPart, IsDifference, apart-is, balance, unlike-false, two-is-one, signed-mul}
+use Rattle.exactness.proofs.Units.{sum-round, sum-same, neg-is, round-under, round-toDigits, round-keeps, in-units, values-sum, has-finite}
+use Rattle.exactness.proofs.Nearest.{fused}
 
 -- ---- the product of two whole numbers that p digits write, in units of 2 ^ l: it is whole, and has at most 2 p digits above its own unit
 pub record Product (p l a b : ℕ) : Type 0 where
@@ -99,7 +98,7 @@ fused-is f (fin s' m e) (fin t' n d) (fin u' p g) s a t b u k c v w r h =
 
 -- ---- the theorem
 -- hi and lo are finite, and hi + lo is exactly x * y
-abbrev Exact : Format → Float → Float → Float → Float → Type 0
+abbrev pub Exact : Format → Float → Float → Float → Float → Type 0
 Exact f x y hi lo = T (finite hi) × T (finite lo) × ((value f hi +ℤ value f lo) *ℤ pos (2 ^ low f) ≡ value f x *ℤ value f y)
 
 -- hi and lo of x = ±a and y = ±b, whose product is c units: hi is c rounded, and lo is what c is more than that
@@ -176,15 +175,3 @@ module _ (f : Format) (x y : Float) (fx : T (fits f x)) (fy : T (fits f y)) (nx 
       let G = product (prec f) (low f) (magnitude f x) (magnitude f y) (X .rep) (Y .rep) (h .0) in
       let e = mul-is f x y (sign x) (magnitude f x) (sign y) (magnitude f y) (G .count) (X .val) (Y .val) (G .same) in
       with-product G (round-under f (unlike (sign x) (sign y)) (G .count) (subst (λ (z : Float). T (finite z)) e (h .1)))
-
--- ---- of binary64, with the fused multiply-add of ieee754
-pub neg-finite : (x : Float) → T (finite x) → T (finite (neg x))
-unfolding neg
-neg-finite (fin s m e) t = t
-
-pub a-mul-exact : (a b : Float) → T (fits binary64 a) → T (fits binary64 b) → ProductExact a b (aMul a b)
-unfolding aMul
-a-mul-exact a b fa fb na nb h =
-    let hi = mul binary64 a b in
-    let E = two-product-exact binary64 a b fa fb na nb h in
-    subst (λ (lo : Float). Exact binary64 a b hi lo) (sym (fused-nearest a b (neg hi) na nb (neg-finite hi (E .0)))) E

@@ -5,22 +5,22 @@ use mathlib.Core.Logic.{inl, inr}
 use Prim.Native.Nat.{ℕ, suc, _+_, _-_, _*_, _/_, _%_, _^_, _≤_, _<_}
 use native.Mathlib.Nat.{dvd-mul-left, mul-assoc, pow-succ'}
 use native.Mathlib.Omega.{arith}
-use mathlib.Core.Bool.{Bool, true, false, not, true≢false}
+use mathlib.Core.Bool.{Bool, not}
 use lib.Dec.{T}
 use borrow.Author.Tests.{le-leb, lt-leb, le-ltb}
-use lib.Ieee.{Float, nan, inf, fin, binary64, mul, neg, eq, isNan, nanBits, fits, ofBits, toBits}
+use lib.Ieee.{Float, fin, binary64, mul, neg, isNan, nanBits, ofBits}
 use lib.Ieee.Exact.{HasValue}
-use lib.Ieee.Bits.{nanBits-above, ofBits-toBits}
+use lib.Ieee.Bits.{nanBits-above}
 use lib.Ieee.Scale.{finite}
+use Rattle.rounding.specs.declared.Direction.the-variants.{Nearest}
+use Rattle.ieee754.specs.Operations.{fusedMultiplyAdd}
 use Rattle.operands.specs.Machine.{signOf, fieldOf, Middle}
 use Rattle.operands.proofs.Reading.{units-mid}
-use Rattle.double_double.specs.Pairs.{fma}
-use Rattle.double_double.specs.Machine.{highHalf}
-use Rattle.double_double.proofs.Multiples.{either-order}
-use Rattle.double_double.proofs.Units.{has-finite}
-use Rattle.double_double.proofs.Nearest.{fused-nearest}
-use Rattle.double_double.proofs.TwoProduct.{neg-finite}
-use Rattle.double_double.proofs.Dekker.{HighHalf, remainderOf, hi-finite, dekker}
+use Rattle.dekker.specs.Machine.{highHalf}
+use Rattle.exactness.proofs.Multiples.{either-order}
+use Rattle.exactness.proofs.Units.{neg-finite, has-finite}
+use Rattle.exactness.proofs.Nearest.{fused-nearest}
+use Rattle.exactness.proofs.Dekker.{HighHalf, remainderOf, hi-finite, dekker}
 
 -- ---- the pattern of the high half
 abbrev significand : ℕ → ℕ
@@ -82,20 +82,6 @@ high-half b h = record {
   room = omega arith;
 }
 
--- where a product is no NaN neither factor is one
-pub factors : (a b hi : Float) → hi ≡ mul binary64 a b → eq hi hi ≡ true → T (not (isNan a)) × T (not (isNan b))
-unfolding mul eq isNan
-factors a b hi e h = go a b (subst (λ (z : Float). eq z z ≡ true) e h)
-  where
-    go : (a b : Float) → eq (mul binary64 a b) (mul binary64 a b) ≡ true → T (not (isNan a)) × T (not (isNan b))
-    go nan b h = absurd (true≢false (sym h))
-    go (inf s) nan h = absurd (true≢false (sym h))
-    go (inf s) (inf t) h = (tt, tt)
-    go (inf s) (fin t n d) h = (tt, tt)
-    go (fin s m e) nan h = absurd (true≢false (sym h))
-    go (fin s m e) (inf t) h = (tt, tt)
-    go (fin s m e) (fin t n d) h = (tt, tt)
-
 -- the pattern of a high half is no NaN's
 pub high-number : (b : ℕ) → Middle (fieldOf b) → T (not (nanBits binary64 (highHalf b)))
 high-number b h = subst (λ (t : Bool). T (not t)) (sym (nanBits-above binary64 (highHalf b) ∙ le-ltb 0x7ff0000000000000 (highHalf b % 0x8000000000000000) (omega arith))) tt
@@ -106,7 +92,7 @@ number (fin s m e) t = tt
 
 -- ---- the theorem
 pub error-is : {a b ah bh hi : Float} (x y : ℕ) → ofBits binary64 x ≡ a → ofBits binary64 y ≡ b → Middle (fieldOf x) → Middle (fieldOf y) → hi ≡ mul binary64 a b → ah ≡ ofBits binary64 (highHalf x) → bh ≡ ofBits binary64 (highHalf y)
-    → (remainderOf binary64 a b ah bh hi ≡ fma a b (neg hi)) × T (not (isNan (remainderOf binary64 a b ah bh hi)))
+    → (remainderOf binary64 a b ah bh hi ≡ fusedMultiplyAdd Nearest a b (neg hi)) × T (not (isNan (remainderOf binary64 a b ah bh hi)))
 error-is {a} {b} {ah} {bh} {hi} x y ea eb p q e g h =
     let X = split a x ea p in
     let Y = split b y eb q in
@@ -118,13 +104,9 @@ error-is {a} {b} {ah} {bh} {hi} x y ea eb p q e g h =
     let nh = neg-finite (mul binary64 a b) (hi-finite binary64 refl w o room X Y) in
     let d = dekker binary64 refl w o room X Y in
     let n : remainderOf binary64 a b ah bh hi ≡ remainderOf binary64 a b (ofBits binary64 (highHalf x)) (ofBits binary64 (highHalf y)) (mul binary64 a b) = λ i. remainderOf binary64 a b (g i) (h i) (e i) in (
-      n ∙ d .0 ∙ sym (fused-nearest a b (neg (mul binary64 a b)) na nb nh) ∙ ap (λ (z : Float). fma a b (neg z)) (sym e),
+      n ∙ d .0 ∙ sym (fused-nearest a b (neg (mul binary64 a b)) na nb nh) ∙ ap (λ (z : Float). fusedMultiplyAdd Nearest a b (neg z)) (sym e),
       number (remainderOf binary64 a b ah bh hi) (subst (λ (z : Float). T (finite z)) (sym n) (d .1)),
     )
   where
     split : (z : Float) (x : ℕ) → ofBits binary64 x ≡ z → Middle (fieldOf x) → HighHalf binary64 (place x) (signOf x) z (ofBits binary64 (highHalf x)) (significand x) (cut x)
     split z x f m = subst (λ (v : Float). HighHalf binary64 (place x) (signOf x) v (ofBits binary64 (highHalf x)) (significand x) (cut x)) f (high-half x m)
-
--- the pattern that is made of a result
-pub back : {r z : Float} → fits binary64 r ≡ true → r ≡ z → ofBits binary64 (toBits binary64 r) ≡ z
-back {r} {z} f e = ofBits-toBits binary64 r (subst T (sym f) tt) ∙ e

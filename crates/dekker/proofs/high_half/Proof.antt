@@ -1,8 +1,8 @@
--- `double_double::high_half` meets its contract. Assumes nothing.
+-- `dekker::high_half` meets its contract. Assumes nothing.
 use borrow.Author.Needs.{needs}
-use Rattle.double_double.proofs.Split.{high-number}
-use Rattle.double_double.proofs.high_half.Statement.{statement}
-use Rattle.double_double.proofs.high_half.Tie as tie
+use Rattle.dekker.proofs.Split.{high-number}
+use Rattle.dekker.proofs.high_half.Statement.{statement}
+use Rattle.dekker.proofs.high_half.Tie as tie
 
 float-from-bits-result : tie.Need-float-from-bits-result
 float-from-bits-result c = high-number (c .args .x) (c .pre)

@@ -1,8 +1,8 @@
--- `double_double::dekker_error` meets its contract: Split has the theorem. Assumes nothing.
+-- `dekker::dekker_error` meets its contract: Split has the theorem. Assumes nothing.
 use borrow.Author.Needs.{needs}
-use Rattle.double_double.proofs.Split.{error-is}
-use Rattle.double_double.proofs.dekker_error.Statement.{statement}
-use Rattle.double_double.proofs.dekker_error.Tie as tie
+use Rattle.dekker.proofs.Split.{error-is}
+use Rattle.dekker.proofs.dekker_error.Statement.{statement}
+use Rattle.dekker.proofs.dekker_error.Tie as tie
 
 returns : tie.Need-returns
 returns c =

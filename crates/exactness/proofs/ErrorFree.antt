@@ -6,8 +6,8 @@ use Prim.Native.Nat.{ℕ, zero, suc, _+_, _-_, _*_, _/_, _^_, _≤_, _<_, _∣_,
 use native.Mathlib.Nat.{le-refl, le-trans, le-of-eq, lt-of-lt-of-le, lt-of-le-of-lt, dvd-sub, dvd-add, dvd-zero, dvd-mul-left, div-mul-cancel, two-pow-succ, eq-zero-or-pos, min-le-left, min-le-right}
 use native.Mathlib.Omega.{arith}
 use lib.Pow.{pow-pos, pow-mono}
-use Rattle.double_double.proofs.Multiples.{apart, coarser, distance, distance-dvd, either-order}
-use Rattle.double_double.proofs.Precision.{dropped, toDigits, Representable, toDigits-near, dropped-lt, dropped-le, dropped-mono, dropped-full, dropped-ge, toDigits-keeps, rep-whole, toDigits-whole, toDigits-below, toDigits-above, rep-few, rep-twice}
+use Rattle.exactness.proofs.Multiples.{apart, coarser, distance, distance-dvd, either-order}
+use Rattle.exactness.proofs.Precision.{dropped, toDigits, Representable, toDigits-near, dropped-lt, dropped-le, dropped-mono, dropped-full, dropped-ge, toDigits-keeps, rep-whole, toDigits-whole, toDigits-below, toDigits-above, rep-few, rep-twice}
 
 -- ---- the sum of two numbers that p digits write, a the larger, and the rounded sum: the error is no more than b, and p digits write it
 module _ (p a b : ℕ) (P : 0 < p) (A : Representable p a) (B : Representable p b) (O : b ≤ a) where

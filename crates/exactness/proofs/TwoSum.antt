@@ -11,12 +11,12 @@ use lib.Ieee.{Float, Format, prec, low, add, sub, round, fits}
 use lib.Ieee.Fits.{two, two-le-pos}
 use lib.Ieee.Exact.{HasValue}
 use lib.Ieee.Scale.{finite, overflow}
-use Rattle.double_double.specs.Exactness.{magnitude, sign, value}
-use Rattle.double_double.proofs.Multiples.{distance}
-use Rattle.double_double.proofs.Precision.{toDigits, Representable, rep-zero, rep-as, toDigits-below}
-use Rattle.double_double.proofs.ErrorFree.{like-ge, like-error, like-rest, like-part, unlike-le, unlike-error, unlike-rest, unlike-part}
-use Rattle.double_double.proofs.Signed.{posPart, negPart, IsDifference, two-is-two}
-use Rattle.double_double.proofs.Units.{sum-round, add-is, round-under, round-toDigits, in-units, values-sum, has-finite, sub-exact}
+use Rattle.exactness.specs.Values.{magnitude, sign, value}
+use Rattle.exactness.proofs.Multiples.{distance}
+use Rattle.exactness.proofs.Precision.{toDigits, Representable, rep-zero, rep-as, toDigits-below}
+use Rattle.exactness.proofs.ErrorFree.{like-ge, like-error, like-rest, like-part, unlike-le, unlike-error, unlike-rest, unlike-part}
+use Rattle.exactness.proofs.Signed.{posPart, negPart, IsDifference, two-is-two}
+use Rattle.exactness.proofs.Units.{sum-round, add-is, round-under, round-toDigits, in-units, values-sum, has-finite, sub-exact}
 
 -- ---- signs written out
 -- the part ±h - ±a in size, r the sign of h and s that of a

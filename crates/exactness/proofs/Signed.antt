@@ -10,8 +10,8 @@ use lib.Dec.{T, ltb, ltb→lt, nltb→le}
 use borrow.Author.Tests.{lt-ltb, le-ltb}
 use lib.Ieee.{unlike}
 use Rattle.wide.proofs.Nat.{sub-mul}
-use Rattle.double_double.specs.Exactness.{signed}
-use Rattle.double_double.proofs.Multiples.{distance, either-order}
+use Rattle.exactness.specs.Values.{signed}
+use Rattle.exactness.proofs.Multiples.{distance, either-order}
 
 -- ---- the positive and the negative part of a number with a sign
 abbrev pub posPart : Bool → ℕ → ℕ

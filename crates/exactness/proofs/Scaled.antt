@@ -11,11 +11,11 @@ use borrow.Author.Tests.{le-ltb}
 use lib.Ieee.{Float, Format, prec, low, unlike, round, sum, add, mul, neg}
 use lib.Ieee.Exact.{HasValue}
 use lib.Ieee.Scale.{overflow}
-use Rattle.double_double.proofs.Multiples.{distance}
-use Rattle.double_double.proofs.Precision.{Representable, rep-times}
-use Rattle.double_double.proofs.Signed.{posPart, negPart, IsDifference, NotMinusZero, size-is, sign-is, is-difference, same-difference, product-is}
-use Rattle.double_double.proofs.Units.{sum-is, add-is, neg-is, round-keeps}
-use Rattle.double_double.proofs.TwoProduct.{mul-is}
+use Rattle.exactness.proofs.Multiples.{distance}
+use Rattle.exactness.proofs.Precision.{Representable, rep-times}
+use Rattle.exactness.proofs.Signed.{posPart, negPart, IsDifference, NotMinusZero, size-is, sign-is, is-difference, same-difference, product-is}
+use Rattle.exactness.proofs.Units.{sum-is, add-is, neg-is, round-keeps}
+use Rattle.exactness.proofs.TwoProduct.{mul-is}
 
 -- ---- sums of fractions
 -- the sum of ±a, which is P - N, and ±b, which is Q - M, times u

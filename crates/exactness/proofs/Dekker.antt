@@ -10,13 +10,13 @@ use lib.Pow.{pow-add, pow-pos, pow-mono, pow-lt}
 use lib.Ieee.{Float, Format, prec, emax, low, unlike, round, add, sub, mul, neg}
 use lib.Ieee.Exact.{HasValue}
 use lib.Ieee.Scale.{finite, overflow}
-use Rattle.double_double.proofs.Multiples.{distance, distance-dvd, coarser}
-use Rattle.double_double.proofs.Precision.{toDigits, Representable, toDigits-near, toDigits-whole, dropped, dropped-le, dropped-ge, rep-le}
-use Rattle.double_double.proofs.Signed.{posPart, negPart, dvd-posPart, dvd-negPart, product-is}
-use Rattle.double_double.proofs.Units.{round-toDigits, has-finite}
-use Rattle.double_double.proofs.TwoProduct.{mul-is, fused-is}
-use Rattle.double_double.proofs.Nearest.{fused}
-use Rattle.double_double.proofs.Scaled.{Scaled, Difference, of-side, of-difference, not-zero, within, neg-scaled, add-round, add-exact, powers, mul-exact, sum-round-at, round-same-difference}
+use Rattle.exactness.proofs.Multiples.{distance, distance-dvd, coarser}
+use Rattle.exactness.proofs.Precision.{toDigits, Representable, toDigits-near, toDigits-whole, dropped, dropped-le, dropped-ge, rep-le}
+use Rattle.exactness.proofs.Signed.{posPart, negPart, dvd-posPart, dvd-negPart, product-is}
+use Rattle.exactness.proofs.Units.{round-toDigits, has-finite}
+use Rattle.exactness.proofs.TwoProduct.{mul-is, fused-is}
+use Rattle.exactness.proofs.Nearest.{fused}
+use Rattle.exactness.proofs.Scaled.{Scaled, Difference, of-side, of-difference, not-zero, within, neg-scaled, add-round, add-exact, powers, mul-exact, sum-round-at, round-same-difference}
 
 -- ---- a product of 105 or 106 digits, rounded to 53: hi
 record High (c w : ℕ) : Type 0 where

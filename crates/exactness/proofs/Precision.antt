@@ -9,7 +9,7 @@ use lib.Pow.{pow-add, pow-pos, pow-mono, pow-lt, shl-lt}
 use lib.Ieee.{size}
 use lib.Ieee.Digits.{size-lt, size-le, size-reaches}
 use lib.Ieee.Nearest.{closest}
-use Rattle.double_double.proofs.Multiples.{coarser, pow-dvd, Near, closest-near, either-order, nearest-below, nearest-above}
+use Rattle.exactness.proofs.Multiples.{coarser, pow-dvd, Near, closest-near, either-order, nearest-below, nearest-above}
 
 -- ---- rounding to p digits
 -- how many digits are dropped

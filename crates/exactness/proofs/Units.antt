@@ -14,10 +14,10 @@ use lib.Ieee.Exact.{HasValue, units-val}
 use lib.Ieee.Nearest.{closest, closest-same}
 use lib.Ieee.Scale.{round-same, finite, overflow}
 use Rattle.wide.proofs.Nat.{sub-mul}
-use Rattle.double_double.specs.Exactness.{magnitude, sign, signed, value}
-use Rattle.double_double.proofs.Multiples.{distance}
-use Rattle.double_double.proofs.Precision.{rep-as, dropped, toDigits, Representable, rep-zero, toDigits-keeps}
-use Rattle.double_double.proofs.Signed.{posPart, negPart, IsDifference, NotMinusZero, size-is, sign-is, posPart-not, negPart-not}
+use Rattle.exactness.specs.Values.{magnitude, sign, signed, value}
+use Rattle.exactness.proofs.Multiples.{distance}
+use Rattle.exactness.proofs.Precision.{rep-as, dropped, toDigits, Representable, rep-zero, toDigits-keeps}
+use Rattle.exactness.proofs.Signed.{posPart, negPart, IsDifference, NotMinusZero, size-is, sign-is, posPart-not, negPart-not}
 
 -- ---- `round` at a whole number of units
 pub round-grid : (f : Format) (s : Bool) (n : ℕ) → round f s n (2 ^ low f) ≡ units f s (closest n (2 ^ dropped (prec f) n)) (dropped (prec f) n)
@@ -122,6 +122,10 @@ add-is f (fin s' m e) (fin t' n d) s a t b p q =
 pub neg-is : (x : Float) (s : Bool) (a c : ℕ) → HasValue x s a c → HasValue (neg x) (not s) a c
 unfolding neg
 neg-is (fin t m e) s a c v = (ap not (v .0), v .1)
+
+pub neg-finite : (x : Float) → T (finite x) → T (finite (neg x))
+unfolding neg
+neg-finite (fin s m e) t = t
 
 -- ---- a value by its whole number
 pub record InUnits (f : Format) (x : Float) : Type 0 where
