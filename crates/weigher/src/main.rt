@@ -3,8 +3,6 @@
 //
 // All that decides an answer is in the crates service and delivery.
 use frames::ANSWER_ROOM;
-use libc::STDIN_FILENO;
-use libc::STDOUT_FILENO;
 use service::State;
 ghost use mathlib.Core.Path.{_≡_};
 ghost use mathlib.Core.Bool.{true};
@@ -24,47 +22,6 @@ fn answer_space() -> [u8; ANSWERS]
     [0; ANSWERS]
 }
 
-// One read. One that a signal interrupts is made again; the count of turns outlasts any machine.
-fn read_some(buf: &mut [u8]) -> isize {
-    let mut turns = u64::MAX;
-    while turns > 0 {
-        let got = libc::read(STDIN_FILENO, buf);
-        if got >= 0 {
-            return got;
-        }
-        if os::errno() != libc::EINTR {
-            return got;
-        }
-        turns -= 1;
-    }
-    -1
-}
-
-// Writes all of bytes: the rest again after a short write, and all again after one that a signal interrupts. False where the output
-// takes no more.
-fn write_out(bytes: &[u8]) -> bool {
-    let mut done = 0;
-    let mut turns = u64::MAX;
-    while done < bytes.len() {
-        if turns == 0 {
-            return false;
-        }
-        let rest = &bytes[done..];
-        let put = libc::write(STDOUT_FILENO, rest);
-        if put == 0 {
-            return false;
-        }
-        if put < 0 {
-            if os::errno() != libc::EINTR {
-                return false;
-            }
-        }
-        done += io::count(put, rest);
-        turns -= 1;
-    }
-    true
-}
-
 struct Served {
     state: State,
     written: bool,
@@ -82,7 +39,7 @@ fn serve(state: State, piece: &[u8], space: &mut [u8]) -> Served
         let handed = delivery::hand_on(state, &piece[at..], space);
         let len = handed.len;
         state = handed.state;
-        if !write_out(&space[..len]) {
+        if !stdio::write_out(&space[..len]) {
             return Served {
                 state,
                 written: false,
@@ -101,7 +58,7 @@ fn finish(state: State) {
     let mut answer = [0u8; ANSWER_ROOM];
     let closed = service::close(state, &mut answer);
     let len = closed.len;
-    if !write_out(&answer[..len]) {
+    if !stdio::write_out(&answer[..len]) {
         os::fail(b"standard output");
     }
 }
@@ -112,7 +69,7 @@ fn main() {
     let mut state = service::fresh();
     let mut turns = u64::MAX;
     while turns > 0 {
-        let got = read_some(&mut input);
+        let got = stdio::read_some(&mut input);
         if got == 0 {
             finish(state);
             return;

@@ -1,9 +1,9 @@
--- `weigher::write_out` meets its contract: it is safe, and ends with its turns. Assumes nothing.
+-- `stdio::write_out` meets its contract: it is safe, and ends with its turns. Assumes nothing.
 use Prim.Native.Nat.{_≤_}
 use native.Mathlib.Omega.{arith}
 use lib.ListN.{length}
-use Rattle.weigher.proofs.write_out.Statement.{statement}
-use Rattle.weigher.proofs.write_out.Tie as tie
+use Rattle.stdio.proofs.write_out.Statement.{statement}
+use Rattle.stdio.proofs.write_out.Tie as tie
 
 abbrev Inv-loop : tie.InvT-loop
 Inv-loop bytes done₀ turns₀ done turns = done ≤ length bytes

@@ -1,9 +1,9 @@
--- `weigher::read_some` meets its contract: it is safe, and ends with its turns. Assumes nothing.
+-- `stdio::read_some` meets its contract: it is safe, and ends with its turns. Assumes nothing.
 use mathlib.Core.Path.{_≡_}
 use native.Mathlib.Omega.{arith}
 use lib.ListN.{length}
-use Rattle.weigher.proofs.read_some.Statement.{statement}
-use Rattle.weigher.proofs.read_some.Tie as tie
+use Rattle.stdio.proofs.read_some.Statement.{statement}
+use Rattle.stdio.proofs.read_some.Tie as tie
 
 abbrev Inv-loop : tie.InvT-loop
 Inv-loop buf₀ turns₀ buf turns = length buf ≡ length buf₀
