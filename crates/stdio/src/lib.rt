@@ -42,3 +42,13 @@ pub fn write_out(bytes: &[u8]) -> bool {
     }
     true
 }
+
+// A line on standard error: why the last read failed.
+pub fn input_failed() {
+    os::fail(b"standard input");
+}
+
+// A line on standard error: why the last write failed.
+pub fn output_failed() {
+    os::fail(b"standard output");
+}

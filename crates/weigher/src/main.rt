@@ -59,7 +59,7 @@ fn finish(state: State) {
     let closed = service::close(state, &mut answer);
     let len = closed.len;
     if !stdio::write_out(&answer[..len]) {
-        os::fail(b"standard output");
+        stdio::output_failed();
     }
 }
 
@@ -75,14 +75,14 @@ fn main() {
             return;
         }
         if got < 0 {
-            os::fail(b"standard input");
+            stdio::input_failed();
             return;
         }
         let n = io::count(got, &input);
         let served = serve(state, &input[..n], &mut space);
         state = served.state;
         if !served.written {
-            os::fail(b"standard output");
+            stdio::output_failed();
             return;
         }
         turns -= 1;

@@ -25,11 +25,8 @@ slice-aggregate-write-out c =
 write-out-requires : tie.Need-write-out-requires
 write-out-requires c κs = search needs
 
-slice-aggregate-fail : tie.Need-slice-aggregate-fail
-slice-aggregate-fail c = search needs
-
-fail-requires : tie.Need-fail-requires
-fail-requires c κs = search needs
+output-failed-requires : tie.Need-output-failed-requires
+output-failed-requires c κs = search needs
 
 returns : tie.Need-returns
 returns c = search needs
@@ -46,7 +43,6 @@ finish-spec =
     array-share-prefix-answer
     slice-aggregate-write-out
     write-out-requires
-    slice-aggregate-fail
-    fail-requires
+    output-failed-requires
     returns
     returns-2)

@@ -9,10 +9,10 @@ use Rattle.weigher.proofs.main.Statement.{statement}
 use Rattle.weigher.proofs.main.Tie as tie
 
 abbrev Inv-loop : tie.InvT-loop
-Inv-loop input₀ space₀ state₀ turns₀ t8 t9 input space state turns = (65536 ≡ length input) × (132104 ≡ length space) × (isGood state ≡ true)
+Inv-loop input₀ space₀ state₀ turns₀ input space state turns = (65536 ≡ length input) × (132104 ≡ length space) × (isGood state ≡ true)
 
 abbrev μ-loop : tie.MeasureT-loop
-μ-loop input₀ space₀ state₀ turns₀ t8 t9 input space state turns = turns
+μ-loop input₀ space₀ state₀ turns₀ input space state turns = turns
 
 large-buffer-requires : tie.Need-large-buffer-requires Inv-loop μ-loop
 large-buffer-requires c κs = tt
@@ -38,11 +38,8 @@ finish-requires c κs = tt
 returns : tie.Need-returns Inv-loop μ-loop
 returns c = tt
 
-slice-aggregate-fail : tie.Need-slice-aggregate-fail Inv-loop μ-loop
-slice-aggregate-fail c = omega arith
-
-fail-requires : tie.Need-fail-requires Inv-loop μ-loop
-fail-requires c κs = tt
+input-failed-requires : tie.Need-input-failed-requires Inv-loop μ-loop
+input-failed-requires c κs = tt
 
 returns-2 : tie.Need-returns-2 Inv-loop μ-loop
 returns-2 c = tt
@@ -67,11 +64,8 @@ serve-requires c κs =
     let i = c .before .before .before .before .before .before .before .before .before .before .loop .inv in
     (i .2, omega arith)
 
-slice-aggregate-fail-2 : tie.Need-slice-aggregate-fail-2 Inv-loop μ-loop
-slice-aggregate-fail-2 c = omega arith
-
-fail-requires-2 : tie.Need-fail-requires-2 Inv-loop μ-loop
-fail-requires-2 c κs = tt
+output-failed-requires : tie.Need-output-failed-requires Inv-loop μ-loop
+output-failed-requires c κs = tt
 
 returns-3 : tie.Need-returns-3 Inv-loop μ-loop
 returns-3 c = tt
@@ -104,8 +98,7 @@ main-spec =
     read-some-requires
     finish-requires
     returns
-    slice-aggregate-fail
-    fail-requires
+    input-failed-requires
     returns-2
     slice-aggregate-count
     count-requires
@@ -113,8 +106,7 @@ main-spec =
     slice-aggregate-serve
     slice-aggregate-serve-2
     serve-requires
-    slice-aggregate-fail-2
-    fail-requires-2
+    output-failed-requires
     returns-3
     sub-turns
     loop-less
