@@ -116,17 +116,22 @@ fn is_body_of(body: &[u8; LONGEST_BODY], bytes: &[u8], kept: bool) -> bool {
     true
 }
 
+// Whether a frame with these length bytes has its body kept.
+fn is_kept(hi: u8, lo: u8) -> bool {
+    let length = hi as usize * 256 + lo as usize;
+    2 <= length && length <= LONGEST_BODY
+}
+
 // Whether a state is document 01's for the bytes of the present frame that have come.
 fn is_state_of(state: State, bytes: &[u8]) -> bool {
     let frame = state.frame;
     let body = frame.body;
     let hi = byte_at(bytes, 0);
     let lo = byte_at(bytes, 1);
-    let length = hi as usize * 256 + lo as usize;
     frame.count == bytes.len()
         && frame.hi == hi
         && frame.lo == lo
-        && is_body_of(&body, bytes, 2 <= length && length <= LONGEST_BODY)
+        && is_body_of(&body, bytes, is_kept(hi, lo))
 }
 
 // Whether the state is the one for the bytes that have come, of which the present frame has the last.
