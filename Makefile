@@ -28,10 +28,10 @@ test: constants proved compare examples outside
 constants:
 	tests/constants.sh
 
-# The program and what the archives stand on, in one go: crates that don't need each other are proved side by side. An archive proves its own
-# crate.
+# The program and what the archives stand on, in one go: crates that don't need each other are proved side by side, and rt waits for all that
+# it has started: with four, fewer processors stand idle. An archive proves its own crate.
 proved:
-	rt check weigher screening
+	RT_JOBS=4 rt check weigher screening
 
 # rt makes an archive of one crate's own functions alone: the three are made one where ar is there.
 archive:
