@@ -1,6 +1,6 @@
 -- Worked examples, computed: document 01's whole case; two lists of calls that differ inside bodies alone; states that no run of bytes
 -- leaves, and one that some run leaves. Assumes nothing.
-use Prim.Native.Nat.{ℕ, zero, suc, _+_}
+use Prim.Native.Nat.{ℕ, zero, suc, _+_, _≤_}
 use mathlib.Core.Path.{_≡_, refl, ap}
 use mathlib.Core.List.{List, [], _∷_, _++_, map, cons≢nil}
 use native.Mathlib.Omega.{arith}
@@ -12,7 +12,7 @@ use Rattle.exp2m1.specs.Score.{steps, scoreBits}
 use Rattle.frames.specs.Frame.{answerRoom, bodyLength, whole, kept, isKind, itemBytes, badPayload, refusalTo, refusalFrame}
 use Rattle.answers.specs.Answers.{resultAt, resultsOf, accepted, answerTo, answerOf}
 use Rattle.partial_frame.specs.State.{keptBytes, placesOf, isLeft, bytesIn}
-use Rattle.service.specs.Book.{emptyBook, Call, Take, Close, Reply}
+use Rattle.service.specs.Book.{Book, emptyBook, stateOf, Call, Take, Close, Reply, bookCall, replyOf}
 use Rattle.service.specs.Service.{freshState, isGood, bookOf, untouched, takeOf, closeOf}
 use Rattle.demands.specs.Stream.{byte, joined, pointsOf, written}
 use Rattle.demands.specs.Demands.{run, replyAfter, handedOn, AllLarge, blanked, Alike, SameAnswers, Unreached}
@@ -145,3 +145,20 @@ whole-refused = demand-1 .closeRefuses (stateAt 2 0 0) room refl whole-unreached
 pub second-byte : takeOf (stateAt 1 0 0) (0 ∷ 5 ∷ []) room ≡ record { used = 1; len = 4; number = 1; state = freshState; buffer = refusalFrame 1 ++ drop 4 room }
 unfolding takeOf isGood bookOf isLeft bytesIn placesOf keptBytes whole kept refusalTo answerTo answerOf
 second-byte = refl
+
+-- by the theorem, for the run of that one byte
+abbrev begun : Book
+begun = record { held = 0 ∷ []; memory = emptyBook .memory }
+
+pub begun-takes : (piece : List ℕ) → takeOf (stateAt 1 0 0) piece room ≡ replyOf (bookCall begun (Take piece room)) room
+unfolding whole placesOf keptBytes kept
+begun-takes piece = demand-1 .take begun piece room refl
+
+pub begun-closes : closeOf (stateAt 1 0 0) room ≡ replyOf (bookCall begun (Close room)) room
+unfolding whole placesOf keptBytes kept
+begun-closes = demand-1 .close begun room refl
+
+pub begun-uses : 1 ≤ takeOf (stateAt 1 0 0) (0 ∷ 5 ∷ []) room .used
+begun-uses =
+    let e : takeOf (stateAt 1 0 0) (0 ∷ 5 ∷ []) room .number ≡ 1 = ap (λ (r : Reply). r .number) second-byte in
+    demand-1 .uses (stateAt 1 0 0) 0 (5 ∷ []) room (λ n. omega arith) (λ n. omega arith)

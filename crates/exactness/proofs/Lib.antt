@@ -9,3 +9,4 @@ pub mod Nearest
 pub mod TwoProduct
 pub mod Scaled
 pub mod Dekker
+pub mod Examples

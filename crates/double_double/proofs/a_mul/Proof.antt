@@ -1,23 +1,14 @@
--- `double_double::a_mul` meets its contract: TwoProduct has the exactness. Assumes nothing.
+-- `double_double::a_mul` meets its contract. Assumes nothing.
 use mathlib.Core.Path.{_≡_, refl, sym, subst, _∙_}
 use lib.Dec.{T}
-use lib.Ieee.{Float, binary64, mul, neg, fits}
+use lib.Ieee.{Float, binary64, mul}
 use borrow.Author.Needs.{needs}
-use Rattle.exactness.proofs.Units.{neg-finite}
-use Rattle.exactness.proofs.Nearest.{fused-nearest}
-use Rattle.exactness.proofs.TwoProduct.{Exact, two-product-exact}
 use Rattle.pair.specs.Pair.{pair}
 use Rattle.double_double.specs.Pairs.{aMul}
 use Rattle.double_double.specs.Exactness.{ProductExact}
+use Rattle.double_double.proofs.Exact.{a-mul-exact}
 use Rattle.double_double.proofs.a_mul.Statement.{statement}
 use Rattle.double_double.proofs.a_mul.Tie as tie
-
-a-mul-exact : (a b : Float) → T (fits binary64 a) → T (fits binary64 b) → ProductExact a b (aMul a b)
-unfolding aMul
-a-mul-exact a b fa fb na nb h =
-    let hi = mul binary64 a b in
-    let E = two-product-exact binary64 a b fa fb na nb h in
-    subst (λ (lo : Float). Exact binary64 a b hi lo) (sym (fused-nearest a b (neg hi) na nb (neg-finite hi (E .0)))) E
 
 returns : tie.Need-returns
 unfolding aMul
