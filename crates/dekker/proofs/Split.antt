@@ -17,7 +17,7 @@ use Rattle.ieee754.specs.Operations.{fusedMultiplyAdd}
 use Rattle.operands.specs.Machine.{signOf, fieldOf, Middle}
 use Rattle.operands.proofs.Reading.{units-mid}
 use Rattle.dekker.specs.Machine.{highHalf}
-use Rattle.exactness.proofs.Multiples.{either-order}
+use Rattle.wide.proofs.Nat.{le-or-gt}
 use Rattle.exactness.proofs.Units.{neg-finite, has-finite}
 use Rattle.exactness.proofs.Nearest.{fused-nearest}
 use Rattle.exactness.proofs.Dekker.{HighHalf, remainderOf, hi-finite, dekker}
@@ -32,7 +32,7 @@ place b = fieldOf b - 1
 -- the sign stays
 sign-stays : (b : ℕ) → Middle (fieldOf b) → signOf (highHalf b) ≡ signOf b
 sign-stays b h =
-    elim (either-order 0x8000000000000000 b) [
+    elim (le-or-gt 0x8000000000000000 b) [
       | inl g ↦ le-leb 0x8000000000000000 (highHalf b) (omega arith) ∙ sym (le-leb 0x8000000000000000 b g)
       | inr g ↦ lt-leb 0x8000000000000000 (highHalf b) (omega arith) ∙ sym (lt-leb 0x8000000000000000 b g)
     ]
@@ -47,7 +47,7 @@ cut b = (significand b + 0x4000000) / 0x8000000 * 0x8000000
 
 high-value : (b : ℕ) → Middle (fieldOf b) → HasValue (ofBits binary64 (highHalf b)) (signOf b) (cut b * 2 ^ place b) (2 ^ 1074)
 high-value b h =
-    elim (either-order 0x10000000000000 (b % 0x10000000000000 + 0x4000000)) [
+    elim (le-or-gt 0x10000000000000 (b % 0x10000000000000 + 0x4000000)) [
       | inl g ↦ high-at (highHalf b) (suc (place b)) (signOf b) (cut b) (place b) (sign-stays b h) (next b (highHalf b) h (carry b g)) (omega (arith, next b (highHalf b) h (carry b g)))
           (ap (λ (x : ℕ). x * 2 ^ suc (place b)) (carried b g) ∙ ap (λ (x : ℕ). 0x10000000000000 * x) (pow-succ' 2 (place b)) ∙ sym (mul-assoc 0x10000000000000 2 (2 ^ place b)) ∙ ap (λ (x : ℕ). x * 2 ^ place b) (sym (full b g)))
       | inr g ↦ high-at (highHalf b) (place b) (signOf b) (cut b) (place b) (sign-stays b h) (omega arith) (omega arith) (ap (λ (x : ℕ). x * 2 ^ place b) (kept b g))

@@ -6,7 +6,8 @@ use Prim.Native.Nat.{ℕ, zero, suc, _+_, _-_, _*_, _/_, _^_, _≤_, _<_, _∣_,
 use native.Mathlib.Nat.{le-refl, le-trans, le-of-eq, lt-of-lt-of-le, lt-of-le-of-lt, dvd-sub, dvd-add, dvd-zero, dvd-mul-left, div-mul-cancel, two-pow-succ, eq-zero-or-pos, min-le-left, min-le-right}
 use native.Mathlib.Omega.{arith}
 use lib.Pow.{pow-pos, pow-mono}
-use Rattle.exactness.proofs.Multiples.{apart, coarser, distance, distance-dvd, either-order}
+use Rattle.wide.proofs.Nat.{le-or-gt}
+use Rattle.exactness.proofs.Multiples.{apart, coarser, distance, distance-dvd}
 use Rattle.exactness.proofs.Precision.{dropped, toDigits, Representable, toDigits-near, dropped-lt, dropped-le, dropped-mono, dropped-full, dropped-ge, toDigits-keeps, rep-whole, toDigits-whole, toDigits-below, toDigits-above, rep-few, rep-twice}
 
 -- ---- the sum of two numbers that p digits write, a the larger, and the rounded sum: the error is no more than b, and p digits write it
@@ -20,7 +21,7 @@ module _ (p a b : ℕ) (P : 0 < p) (A : Representable p a) (B : Representable p 
   -- a multiple of both units that is no more than b
   pub rep-fine : (n : ℕ) → 2 ^ min (A .unit) (B .unit) ∣ n → n ≤ b → Representable p n
   rep-fine n d l =
-      elim (either-order (A .unit) (B .unit)) [
+      elim (le-or-gt (A .unit) (B .unit)) [
         | inl h ↦ record { unit = min (A .unit) (B .unit); whole = d; small = lt-of-le-of-lt (le-trans l O) (lt-of-lt-of-le (A .small) (pow-mono (omega arith))) }
         | inr h ↦ record { unit = min (A .unit) (B .unit); whole = d; small = lt-of-le-of-lt l (lt-of-lt-of-le (B .small) (pow-mono (omega arith))) }
       ]
@@ -95,7 +96,7 @@ module _ (p a b : ℕ) (P : 0 < p) (A : Representable p a) (B : Representable p 
 
   pub unlike-part : Representable p (a - toDigits p (a - b))
   unlike-part =
-      elim (either-order a (b + b)) [
+      elim (le-or-gt a (b + b)) [
         | inl h ↦ kept-part (rep-fine (a - b) fine-sub (omega arith))
         | inr h ↦ go (dropped p a) refl h
       ]

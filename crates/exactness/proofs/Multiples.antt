@@ -7,8 +7,9 @@ use native.Mathlib.Omega.{arith}
 use lib.Pow.{pow-add, pow-pos}
 use lib.Ieee.{nearest}
 use lib.Ieee.Nearest.{closest}
-use lib.Dec.{T, isLe, isEq, leb→le, nleb→lt, eqb→eq, leb}
-use mathlib.Core.Bool.{Bool, true, false, not}
+use lib.Dec.{T, isLe, isEq, leb→le, nleb→lt, eqb→eq}
+use mathlib.Core.Bool.{not}
+use Rattle.wide.proofs.Nat.{le-or-gt}
 
 -- ---- small things
 -- two multiples of u that differ are u apart
@@ -27,13 +28,6 @@ distance a b = (a - b) + (b - a)
 
 pub distance-dvd : (u a b : ℕ) → u ∣ a → u ∣ b → u ∣ distance a b
 distance-dvd u a b p q = dvd-add u (dvd-sub u p q) (dvd-sub u q p)
-
-pub either-order : (a b : ℕ) → (a ≤ b) ⊎ (b < a)
-either-order a b = go (leb a b) (leb→le a b) (nleb→lt a b)
-  where
-    go : (t : Bool) → (T t → a ≤ b) → (T (not t) → b < a) → (a ≤ b) ⊎ (b < a)
-    go true h k = inl (h tt)
-    go false h k = inr (k tt)
 
 -- ---- the nearest multiple of u
 abbrev Cmp : Ordering → ℕ → ℕ → Type 0
@@ -92,14 +86,14 @@ closest-near n u U = go (compare (n % u * 2) u) (cmp (n % u * 2) u)
 module _ (n u h r : ℕ) (U : 0 < u) (N : Near n u h) (R : u ∣ r) where
   pub nearest-below : r ≤ n → (r ≤ h) × (h + r ≤ 2 * n)
   nearest-below l =
-      elim (either-order r h) [
+      elim (le-or-gt r h) [
         | inl a ↦ elim (eq-or-lt-of-le a) [ inl e ↦ (omega (arith, N .under), omega (arith, N .over)) | inr b ↦ let k = apart u r h R (N .whole) b in (omega arith, omega (arith, N .over)) ]
         | inr b ↦ let k = apart u h r (N .whole) R b in (omega (arith, N .under), omega (arith, N .under))
       ]
 
   pub nearest-above : n ≤ r → (h ≤ r) × (2 * n ≤ h + r)
   nearest-above l =
-      elim (either-order h r) [
+      elim (le-or-gt h r) [
         | inl a ↦ elim (eq-or-lt-of-le a) [ inl e ↦ (omega arith, omega arith) | inr b ↦ let k = apart u h r (N .whole) R b in (omega arith, omega (arith, N .under)) ]
         | inr b ↦ let k = apart u r h R (N .whole) b in (omega (arith, N .over), omega (arith, N .over))
       ]

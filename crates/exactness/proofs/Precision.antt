@@ -9,7 +9,8 @@ use lib.Pow.{pow-add, pow-pos, pow-mono, pow-lt, shl-lt}
 use lib.Ieee.{size}
 use lib.Ieee.Digits.{size-lt, size-le, size-reaches}
 use lib.Ieee.Nearest.{closest}
-use Rattle.exactness.proofs.Multiples.{coarser, pow-dvd, Near, closest-near, either-order, nearest-below, nearest-above}
+use Rattle.wide.proofs.Nat.{le-or-gt}
+use Rattle.exactness.proofs.Multiples.{coarser, pow-dvd, Near, closest-near, nearest-below, nearest-above}
 
 -- ---- rounding to p digits
 -- how many digits are dropped
@@ -68,7 +69,7 @@ rep-whole p n r = coarser (dropped p n) (r .unit) n (dropped-le p n (r .unit) (r
 
 pub toDigits-whole : (p n j : ℕ) → 2 ^ j ∣ n → 2 ^ j ∣ toDigits p n
 toDigits-whole p n j d =
-    elim (either-order j (dropped p n)) [
+    elim (le-or-gt j (dropped p n)) [
       | inl a ↦ coarser j (dropped p n) (toDigits p n) a (toDigits-near p n .whole)
       | inr b ↦ subst (λ (x : ℕ). 2 ^ j ∣ x) (sym (toDigits-keeps p n (record { unit = j; whole = d; small = lt-of-lt-of-le (dropped-lt p n) (pow-mono (omega arith)) }))) d
     ]
@@ -84,7 +85,7 @@ module _ (p n r : ℕ) (P : 0 < p) (R : Representable p r) where
 
   pub toDigits-below : r ≤ n → (r ≤ toDigits p n) × (toDigits p n + r ≤ 2 * n)
   toDigits-below h =
-      elim (either-order (dropped p n) (R .unit)) [
+      elim (le-or-gt (dropped p n) (R .unit)) [
         | inl a ↦ nearest-below n (2 ^ dropped p n) (toDigits p n) r (pow-pos (dropped p n)) (toDigits-near p n) (coarser (dropped p n) (R .unit) r a (R .whole)) h
         | inr b ↦
             let s = step b in
@@ -97,7 +98,7 @@ module _ (p n r : ℕ) (P : 0 < p) (R : Representable p r) where
 
   pub toDigits-above : n ≤ r → (toDigits p n ≤ r) × (2 * n ≤ toDigits p n + r)
   toDigits-above h =
-      elim (either-order (dropped p n) (R .unit)) [
+      elim (le-or-gt (dropped p n) (R .unit)) [
         | inl a ↦ nearest-above n (2 ^ dropped p n) (toDigits p n) r (pow-pos (dropped p n)) (toDigits-near p n) (coarser (dropped p n) (R .unit) r a (R .whole)) h
         | inr b ↦ let s = step b in absurd (not-le-of-lt (lt-of-lt-of-le (s .0) (s .1)) h)
       ]

@@ -11,7 +11,8 @@ use borrow.Author.Tests.{lt-ltb, le-ltb}
 use lib.Ieee.{unlike}
 use Rattle.wide.proofs.Nat.{sub-mul}
 use Rattle.exactness.specs.Values.{signed}
-use Rattle.exactness.proofs.Multiples.{distance, either-order}
+use Rattle.wide.proofs.Nat.{le-or-gt}
+use Rattle.exactness.proofs.Multiples.{distance}
 
 -- ---- the positive and the negative part of a number with a sign
 abbrev pub posPart : Bool → ℕ → ℕ
@@ -86,7 +87,7 @@ sign-is false n P N z i = sym (le-ltb P N (omega arith))
 -- P - N is P' - N' times u
 pub same-difference : (P N P' N' u : ℕ) → 0 < u → P + N' * u ≡ P' * u + N → (ltb P N ≡ ltb P' N') × (distance P N ≡ distance P' N' * u)
 same-difference P N P' N' u U e =
-    elim (either-order N' P') [
+    elim (le-or-gt N' P') [
       | inl h ↦ let l = mul-le-mul-right u h in (le-ltb P N (omega arith) ∙ sym (le-ltb P' N' h), sym (times (omega arith)))
       | inr h ↦ let l = mul-lt-mul-of-pos-right h U in (lt-ltb P N (omega arith) ∙ sym (lt-ltb P' N' h), sym (times (omega arith)))
     ]

@@ -14,7 +14,7 @@ use lib.Ieee.Exact.{HasValue, odd-sign}
 use lib.Ieee.Order.{le-of-values}
 use lib.Ieee.Bits.{ofBits-toBits, toBits-lt, nanBits-is, nanBits-above}
 use Rattle.pair.specs.Pair.{bits}
-use Rattle.exactness.proofs.Multiples.{either-order}
+use Rattle.wide.proofs.Nat.{le-or-gt}
 use Rattle.exponential.specs.Range.{Between, above, below, most, deepest}
 use Rattle.exp2m1.specs.Range.{Bounded}
 
@@ -131,7 +131,7 @@ bounded-between b x f B h =
     let d = B .deep in
     let l = B .large in
     let top = toBits-lt binary64 x f in
-    elim (either-order (2 ^ 63) u) [
+    elim (le-or-gt (2 ^ 63) u) [
       | inl g ↦
           let w : 2 ^ 63 + u % 2 ^ 63 ≡ u = omega arith in
           let n : neg x ≡ ofBits binary64 (u % 2 ^ 63) = ap neg (sym e ∙ ap (ofBits binary64) (sym w) ∙ negated (u % 2 ^ 63) (omega arith)) ∙ neg-neg (ofBits binary64 (u % 2 ^ 63)) in

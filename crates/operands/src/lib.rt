@@ -47,7 +47,7 @@ pub fn field(b: u64) -> u64
 
 // Whether an exponent field is far from both ends.
 pub fn is_middle(x: u64) -> bool
-    ensures { λ r. ⌜ (r ≡ true → Middle x) ⌝ }
+    ensures { λ r. ⌜ (r ≡ true → Middle x) × (Middle x → r ≡ true) ⌝ }
 {
     if x < 600 { false } else { x < 1500 }
 }

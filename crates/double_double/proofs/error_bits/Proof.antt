@@ -43,8 +43,8 @@ dekker-error-requires c κs =
     let s = c4 .before .before in (
       back (s .good .0 .1) refl,
       back (s .good .1 .0 .1) refl,
-      subst (λ (x : ℕ). Middle x) (c4 .field .ensures) (c3 .before .is-middle .ensures (c3 .if2 .taken)),
-      subst (λ (x : ℕ). Middle x) (c2 .field2 .ensures) (c .before .is-middle2 .ensures (c .if3 .taken)),
+      subst (λ (x : ℕ). Middle x) (c4 .field .ensures) (c3 .before .is-middle .ensures .0 (c3 .if2 .taken)),
+      subst (λ (x : ℕ). Middle x) (c2 .field2 .ensures) (c .before .is-middle2 .ensures .0 (c .if3 .taken)),
       s .pre,
     )
 

@@ -31,7 +31,7 @@ returns c =
     let t2 = c .before in
     let t1 = t2 .before .before in
     let a = t1 .before .before .args in
-    record { first = t1 .before .is-middle .ensures (t1 .if1 .taken); second = t2 .before .is-middle2 .ensures (t2 .if2 .taken); over = c .if3 .taken; under = leb-true (a .z + 1003) (a .x + a .y) e }
+    record { first = t1 .before .is-middle .ensures .0 (t1 .if1 .taken); second = t2 .before .is-middle2 .ensures .0 (t2 .if2 .taken); over = c .if3 .taken; under = leb-true (a .z + 1003) (a .x + a .y) e }
 
 returns-2 : tie.Need-returns-2
 returns-2 c = λ e. absurd (true≢false (sym e))
