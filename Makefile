@@ -1,10 +1,11 @@
 # make run          the weigher on standard input and output
+# make constants    the program constants on standard input and output: a pattern for each line's hexadecimal text
 # make test         the gate: the constants, the comparisons, the examples, the program from outside, layout, and rt ci
 # make archive      target/staticlib/libweigher.a, the functions of include/weigher.h for C and Rust to link
 # make bench        times the operations beside the machine's, musl's and the Rust's, and the program on whole streams beside the Rust service and cat
 # make connections  400 connections under socat, each answer compared (tests/README.md)
 # make faults       readers and peers that go or stall, signals, failing calls, 200 instances, a gigabyte of frames (tests/README.md)
-.PHONY: run test proved archive program constants compare examples outside bench connections faults
+.PHONY: run constants test proved archive program source compare examples outside bench connections faults
 
 # One rt at a time works in target/.
 .NOTPARALLEL:
@@ -19,42 +20,47 @@ run:
 	@rt check weigher >&2
 	@target/bin/weigher
 
-test: constants proved compare examples outside
+constants:
+	@rt check constants >&2
+	@target/bin/constants
+
+test: proved source compare examples outside
 	docs/check-proofs.sh
 	rt fmt --check
 	rt ci
 
-# Each constant of the Rust source beside the definitions' and the code's, where the source is there.
-constants:
+# The programs and what the archives stand on, in one go: crates that don't need each other are proved side by side, and rt waits for all
+# that it has started: with four, fewer processors stand idle. An archive proves its own crate.
+proved:
+	RT_JOBS=4 rt check weigher screening constants
+
+# Each constant of the Rust source, read by the program constants, beside the definitions' and the code's, where the source is there.
+source: proved
 	tests/constants.sh
 
-# The program and what the archives stand on, in one go: crates that don't need each other are proved side by side, and rt waits for all that
-# it has started: with four, fewer processors stand idle. An archive proves its own crate.
-proved:
-	RT_JOBS=4 rt check weigher screening
-
-# rt makes an archive of one crate's own functions alone: the three are made one where ar is there.
+# rt makes an archive of one crate's own functions alone: the four are made one where ar is there.
 archive:
+	rt staticlib constant_c
 	rt staticlib operations_c
 	rt staticlib payloads_c
 	rt staticlib service_c
 	@if command -v ar >/dev/null; then \
 	    cd target/staticlib && \
-	    printf '%s\n' 'create libweigher.a' 'addlib liboperations_c.a' 'addlib libpayloads_c.a' 'addlib libservice_c.a' save end | ar -M; \
+	    printf '%s\n' 'create libweigher.a' 'addlib libconstant_c.a' 'addlib liboperations_c.a' 'addlib libpayloads_c.a' 'addlib libservice_c.a' save end | ar -M; \
 	else \
 	    echo "ar is not installed: target/staticlib/libweigher.a is not made"; \
 	fi
 
 program:
-	rt check weigher
+	rt check weigher constants
 
-# Edge cases and a million random ones of each operation, and lists of calls, where rustc and ar are there; the score, its recorded
-# vectors and random streams where the Rust source is too.
+# Edge cases and a million random ones of each operation, lists of calls, and texts of constants, where rustc and ar are there; the score,
+# its recorded vectors, random streams and the source's own texts where the Rust source is too.
 compare: archive program
 	@if command -v rustc >/dev/null && command -v ar >/dev/null; then \
 	    rt staticlib fast_fused_c && compare/build.sh && target/compare/compare run 1 && \
 	    cat crates/exp2m1_vectors/stdin crates/phase_vectors/stdin | target/compare/compare check-score-vectors && \
-	    target/compare/compare streams 2 && target/compare/compare calls 10; \
+	    target/compare/compare streams 2 && target/compare/compare calls 10 && target/compare/compare constants 100; \
 	else \
 	    echo "rustc or ar is not installed: nothing is compared"; \
 	fi

@@ -1,7 +1,11 @@
-//! The functions of C: those of include/weigher.h, the fma that the score calls, the platform's ldexp and ldexpf, and musl's fma where it is linked.
+//! The functions of C: those of include/weigher.h, the fma that the score calls, the platform's ldexp, ldexpf, strtod and %a, and musl's
+//! fma where it is linked.
 //!
 //! Nothing checks these declarations against the C side. Those that take and return plain numbers are safe to call; those that are lent
-//! bytes, as a pointer and a length, have a function over slices here.
+//! bytes, as a pointer and a length or with a 0 behind them, have a function over slices or strings here.
+
+use std::ffi::{CStr, c_char, c_int};
+use std::ptr;
 
 /// The longest body that a state holds.
 pub const BODY_PLACES: usize = 514;
@@ -76,6 +80,7 @@ unsafe extern "C" {
     ) -> HandedOn;
     fn weigher_payload(body: *const u8, length: usize) -> usize;
     fn weigher_screening(payload: *const u8, length: usize) -> Screened;
+    fn weigher_constant(text: *const u8, length: usize, result: *mut u64) -> u8;
 }
 
 pub fn take(state: State, piece: &[u8], answer: &mut [u8]) -> Taken {
@@ -120,6 +125,12 @@ pub fn screening(payload: &[u8]) -> Screened {
     unsafe { weigher_screening(payload.as_ptr(), payload.len()) }
 }
 
+/// The refusal's number, or 0 and the result is written.
+pub fn constant(text: &[u8], result: &mut u64) -> u8 {
+    // SAFETY: as in take; the result too is lent to this call alone.
+    unsafe { weigher_constant(text.as_ptr(), text.len(), result) }
+}
+
 #[link(name = "fast_fused_c", kind = "static")]
 unsafe extern "C" {
     pub safe fn fast_fused(a: u64, b: u64, c: u64) -> u64;
@@ -129,6 +140,29 @@ unsafe extern "C" {
 unsafe extern "C" {
     pub safe fn ldexp(x: f64, n: i32) -> f64;
     pub safe fn ldexpf(x: f32, n: i32) -> f32;
+}
+
+#[link(name = "c")]
+unsafe extern "C" {
+    fn strtod(text: *const c_char, end: *mut *mut c_char) -> f64;
+    fn snprintf(buffer: *mut c_char, size: usize, format: *const c_char, ...) -> c_int;
+}
+
+/// The float that C reads from the text's front, and how many bytes it takes for it.
+pub fn read_float(text: &CStr) -> (f64, usize) {
+    let mut end = ptr::null_mut();
+    // SAFETY: strtod reads up to the 0, and sets the end to a place of the text.
+    let float = unsafe { strtod(text.as_ptr(), &mut end) };
+    (float, end.addr() - text.as_ptr().addr())
+}
+
+/// The float as C writes it by %a.
+pub fn written_float(x: f64) -> String {
+    let mut buffer = [0; 32];
+    // SAFETY: snprintf writes as many bytes as it is told at most, the last of them a 0.
+    unsafe { snprintf(buffer.as_mut_ptr().cast(), buffer.len(), c"%a".as_ptr(), x) };
+    let text = CStr::from_bytes_until_nul(&buffer).expect("a 0 at the end");
+    text.to_str().expect("ASCII").to_string()
 }
 
 #[cfg(musl_fma)]

@@ -1,9 +1,9 @@
 /* The weigher for C and C++, on x86-64 Linux. Link with libweigher.a.
  *
- * Three groups of calls: the framed service, which takes the bytes of a stream
+ * Four groups of calls: the framed service, which takes the bytes of a stream
  * in pieces of any size and answers each frame; payload and screening, for
- * those who make frames; and the numeric functions. docs/PROTOCOL.md has the
- * frames, the answers and the refusals byte by byte.
+ * those who make frames; the numeric functions; and the reader of constants.
+ * docs/PROTOCOL.md has the frames, the answers and the refusals byte by byte.
  *
  * Every call takes every value of its arguments, and ends. None allocates,
  * none keeps anything between calls, and there is no global state: any number
@@ -11,11 +11,12 @@
  *
  * A pointer and the length behind it are a run of bytes that is there to read
  * (const) or to write. Where the length is 0 the pointer may be NULL. The
- * buffer for answers does not overlap the piece.
+ * buffer for answers does not overlap the piece, nor a constant's result its
+ * text.
  *
  * Floats are binary64, passed and returned as their 64-bit patterns. Every
  * pattern is taken, and each NaN result is WEIGHER_NAN. Results are rounded to
- * nearest, ties to even. */
+ * nearest, ties to even; a constant is never rounded. */
 #ifndef WEIGHER_H
 #define WEIGHER_H
 
@@ -47,7 +48,8 @@ extern "C" {
 /* The numbers of refusals. 1 to 5 and 8 are answers too, the bytes 00 02 01
  * and the number. 6 and 7 refuse a call and are no answers: they are tried
  * first, in this order, and then the call returns the state as it was, with
- * used and len 0, and the buffer keeps its content. */
+ * used and len 0, and the buffer keeps its content. 9 and 10 are for texts of
+ * constants alone. */
 enum {
     WEIGHER_SHORT_BODY = 1,   /* the body has under 2 bytes */
     WEIGHER_LONG_BODY = 2,    /* it has over WEIGHER_LONGEST_BODY bytes */
@@ -56,7 +58,9 @@ enum {
     WEIGHER_BAD_PAYLOAD = 5,  /* the payload is empty, or no whole items */
     WEIGHER_SMALL_BUFFER = 6, /* the buffer is under WEIGHER_ANSWER_ROOM */
     WEIGHER_BAD_STATE = 7,    /* the state is one that no bytes leave */
-    WEIGHER_UNFINISHED = 8    /* the stream ended inside a frame */
+    WEIGHER_UNFINISHED = 8,   /* the stream ended inside a frame */
+    WEIGHER_BAD_TEXT = 9,     /* the text has not the form of a constant */
+    WEIGHER_INEXACT = 10      /* its value is not exactly a finite float */
 };
 
 /* What has come of the present frame. Places of the body that are not filled
@@ -166,6 +170,22 @@ uint64_t weigher_floor(uint64_t x);
 
 /* x * 2^n, rounded once. A zero or infinite result has the sign of x. */
 uint64_t weigher_scale(uint64_t x, int32_t n);
+
+/* ---- Constants */
+
+/* Reads a C23 hexadecimal float, such as 0x1.62e42fefa39efp-1: + or - or
+ * neither, 0x, hexadecimal digits with at most one point, p, + or - or neither,
+ * decimal digits, and nothing else. At least one digit stands between 0x and p,
+ * and at least one behind p. Letters may be of either case. The text may have
+ * any length, and needs no 0 behind it; result points to a uint64_t that may be
+ * written.
+ *
+ * Returns 0, and *result is the float whose value is exactly the text's; a zero
+ * keeps the text's sign, with every exponent. Or returns the refusal's number,
+ * WEIGHER_BAD_TEXT, which is tried first, or WEIGHER_INEXACT, and *result keeps
+ * its content. */
+uint8_t weigher_constant(const uint8_t *text, size_t text_len,
+                         uint64_t *result);
 
 #ifdef __cplusplus
 }

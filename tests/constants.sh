@@ -1,6 +1,7 @@
 #!/bin/sh
 # Compares the hexadecimal constants of the Rust's exp2m1.rs, in order, with the bits in specs/ and in the code, and with the text beside those
-# in the code. constants.txt says where each of them stands.
+# in the code. constants.txt says where each of them stands. The floats are read by target/bin/constants (`rt check constants` builds it), and
+# once more here.
 #     tests/constants.sh [SOURCE]
 # SOURCE is the folder of the Rust source, ../shared/docs/src where none is given. Where it is not there, nothing is compared.
 # Prints each difference with its file and line, then the counts; the status is 1 where there was one.
@@ -11,7 +12,18 @@ if [ ! -f "$source" ]; then
     echo "the Rust source is not there: no constant is compared"
     exit 0
 fi
-exec awk '
+work=$(mktemp -d)
+trap 'rm -rf "$work"' EXIT
+grep -oE -- '-?hf64!\("[^"]*"\)' "$source" | sed 's/hf64!("//; s/")//' | sort -u > "$work/texts"
+target/bin/constants < "$work/texts" | paste -d ' ' "$work/texts" - > "$work/read"
+awk -v read_by_constants="$work/read" '
+BEGIN {
+    while ((getline line < read_by_constants) > 0) {
+        split(line, word, " ")
+        read[word[1]] = word[2]
+    }
+}
+
 function differ(message) { print message; differences++ }
 
 # The digits of a pattern, without zeros in front: of 0x.., or of a float like -0x1.8p-3.
@@ -26,6 +38,16 @@ function pattern(text,    negative, part, number, digits) {
     } else if (part[1] == "0") digits = negative ? "8000000000000000" : "0"
     sub(/^0+/, "", digits)
     return digits == "" ? "0" : digits
+}
+
+# The same for a constant of the source, a float by the program constants too.
+function source_pattern(text, is_float,    digits) {
+    digits = pattern(text)
+    if (is_float) {
+        reads++
+        if (read[text] != "0x" substr("0000000000000000", 1, 16 - length(digits)) digits) differ(text ": the program constants says " read[text] " and not " digits)
+    }
+    return digits
 }
 
 # The source: the constants of each item, in order.
@@ -51,7 +73,7 @@ FILENAME == ARGV[1] {
         sub(/"\)/, "", constant)
         text[constants] = constant
         from[constants] = "exp2m1.rs:" FNR
-        bits[constants] = pattern(constant)
+        bits[constants] = source_pattern(constant, float[constants])
         member[name, ++members[name]] = constants
     }
     if (line ~ /;$/) item = ""
@@ -160,6 +182,6 @@ END {
         account(n, "src")
     }
     for (n in left) reasons++
-    printf "constants: %d of exp2m1.rs in %d places of specs/ and src/, %d left out with a reason; differences: %d\n", constants, places, reasons, differences
+    printf "constants: %d of exp2m1.rs, %d of them read by the program constants, in %d places of specs/ and src/, %d left out with a reason; differences: %d\n", constants, reads, places, reasons, differences
     exit (differences > 0)
 }' "$source" tests/constants.txt

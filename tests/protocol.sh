@@ -1,16 +1,19 @@
 #!/bin/sh
-# Replays the examples of docs/PROTOCOL.md through target/bin/weigher, which must answer as the page says; and through the service in
-# compare/, where it was built with the Rust source. Run in the repository's root, after `rt check weigher`.
+# Replays the examples of docs/PROTOCOL.md through target/bin/weigher and target/bin/constants, which must answer as the page says; and through
+# the service and the reader in compare/, where it was built with the Rust source. Run in the repository's root, after
+# `rt check weigher constants`.
 set -eu
 page=docs/PROTOCOL.md
 program=target/bin/weigher
+constants=target/bin/constants
 reference=target/compare/compare
 work=target/protocol
 rm -rf "$work"
 mkdir -p "$work"
 
 # An example is a block marked 'frames'. A line of it is input after '>' and answers after '<', in hexadecimal bytes; 'N times' repeats
-# the bytes behind it, and '#' begins a remark. Both sides become files of octal escapes for printf: plain awks write no byte 0.
+# the bytes behind it, and '#' begins a remark. Both sides become files of octal escapes for printf: plain awks write no byte 0. In a block
+# marked 'constants' the lines are taken as they stand.
 awk -v work="$work" '
     function fail(message) {
         printf "%s:%d: %s\n", FILENAME, FNR, message
@@ -27,20 +30,29 @@ awk -v work="$work" '
         sides[">"] = "input"
         sides["<"] = "answers"
     }
-    $0 == "```frames" {
-        inside = 1
+    $0 == "```frames" || $0 == "```constants" {
+        inside = substr($0, 4)
         example = sprintf("%s/%02d", work, ++examples)
         print FNR > (example ".line")
+        print inside > (example ".kind")
         printf "" > (example ".input")
         printf "" > (example ".answers")
         next
     }
     $0 == "```" {
-        inside = 0
+        inside = ""
         next
     }
     !inside && /^[<>]/ {
-        fail("bytes outside a block of frames")
+        fail("a line outside a block of frames or constants")
+    }
+    inside == "constants" {
+        if (!/^[<>]( |$)/)
+            fail("neither input nor answers")
+        print substr($0, 3) > (example "." sides[substr($0, 1, 1)])
+        if (/^< refused/)
+            codes[$3] = 1
+        next
     }
     inside {
         sub(/#.*/, "")
@@ -63,10 +75,10 @@ awk -v work="$work" '
     END {
         if (failed)
             exit 1
-        split("1 2 3 4 5 8", refusals)
+        split("00020101 00020102 00020103 00020104 00020105 00020108 9 10", refusals)
         for (i in refusals)
-            if (!(("0002010" refusals[i]) in codes))
-                fail("no example is refused by " refusals[i])
+            if (!(refusals[i] in codes))
+                fail("no example has the refusal " refusals[i])
     }
 ' "$page"
 
@@ -89,19 +101,26 @@ answers() {
 }
 
 if "$reference" answers < /dev/null > /dev/null 2>&1; then
-    by="$program and the service in compare/"
+    by="$program, $constants and compare/"
 else
-    by="$program (the service in compare/ is not built, or without the Rust source)"
+    by="$program and $constants (compare/ is not built, or without the Rust source)"
     reference=
 fi
 
 count=0
 for line in "$work"/*.line; do
     example=${line%.line}
+    count=$((count + 1))
+    if [ "$(cat "$example.kind")" = constants ]; then
+        cp "$example.input" "$example.in"
+        cp "$example.answers" "$example.out"
+        answers "$example" "$constants"
+        [ -z "$reference" ] || answers "$example" "$reference" constant-replies
+        continue
+    fi
     bytes "$example.input" > "$example.in"
     bytes "$example.answers" > "$example.out"
     answers "$example" "$program"
     [ -z "$reference" ] || answers "$example" "$reference" answers
-    count=$((count + 1))
 done
 echo "$page: $count examples are answered as written by $by"

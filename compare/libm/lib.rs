@@ -29,6 +29,7 @@ use calls::{Call, keep};
 pub use exp2m1::exp2m1;
 use ldexp::ldexp;
 use scalbn::{scalbn, scalbnf};
+pub use support::parse_hex_exact;
 
 /// Stands in for fma.rs: the machine's.
 #[cfg(not(any(fma = "weigher", fma = "musl")))]

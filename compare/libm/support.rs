@@ -21,7 +21,7 @@ use env::{Round, Status};
 pub use float_traits::Float;
 use float_traits::{f32_from_bits, f64_from_bits};
 use hex_float::DisplayHex;
-pub use hex_float::hf64;
+pub use hex_float::{hf64, parse_hex_exact};
 pub use int_traits::{CastFrom, CastInto, DInt, Int};
 
 /// Stands in for the one of support/mod.rs, a hint.

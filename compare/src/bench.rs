@@ -1,7 +1,8 @@
-//! Times the weigher's operations beside the machine's, musl's and the Rust exp2m1.
+//! Times the weigher's operations beside the machine's, musl's and the Rust exp2m1, and its reader of constants beside C's.
 //!
 //! Each is called through a function pointer that the compiler does not see through, on the same operands, in turn.
 
+use std::ffi::{CStr, CString};
 use std::hint::black_box;
 use std::time::Instant;
 
@@ -16,8 +17,8 @@ const ROUNDS: usize = 300;
 /// Weights whose calls of fma are timed.
 const WEIGHTS: usize = 4096;
 
-/// Rounds of the score, each call of which takes longer.
-const SCORE_ROUNDS: usize = 60;
+/// Rounds of the score and of constants, each call of which takes longer.
+const FEW_ROUNDS: usize = 60;
 
 type Three = (u64, u64, u64);
 
@@ -45,6 +46,7 @@ pub fn run() {
     let operands = prepare(|| (one(random, -40, 40), random.between(-100, 100) as i32));
     time("scale, n from -100 to 100", &operands, &scale_ways());
     score(random);
+    constants(random);
 }
 
 /// fma as the score calls it, on the operands of the Rust exp2m1's own calls.
@@ -62,13 +64,33 @@ fn score(random: &mut Random) {
     let ways = ways_of_one(ffi::weigher_score, rust::INSTANCES);
     let operands = prepare(|| linear(random, -50.0, 50.0));
     let title = "score, weights from -50 to 50";
-    time_rounds(SCORE_ROUNDS, title, &operands, &ways);
+    time_rounds(FEW_ROUNDS, title, &operands, &ways);
     let operands = prepare(|| one(random, -60, -4));
     let title = "score, sizes from 2^-60 to 2^-3";
-    time_rounds(SCORE_ROUNDS, title, &operands, &ways);
+    time_rounds(FEW_ROUNDS, title, &operands, &ways);
     if rust::INSTANCES.is_empty() {
         println!("the Rust exp2m1: its source was not there");
     }
+}
+
+/// Floats as C writes them by %a.
+fn constants(random: &mut Random) {
+    let weigher = black_box(ffi::constant as fn(&[u8], &mut u64) -> u8);
+    let machine = black_box(ffi::read_float as fn(&CStr) -> (f64, usize));
+    let ways = [
+        way("weigher", move |text: &CString| {
+            let mut result = 0;
+            weigher(text.as_bytes(), &mut result);
+            result
+        }),
+        way("strtod", move |text: &CString| machine(text).0.to_bits()),
+    ];
+    let operands = prepare(|| {
+        let text = ffi::written_float(f64::from_bits(one(random, -1022, 1023)));
+        CString::new(text).expect("no 0 in it")
+    });
+    let title = "constant, texts of about 22 bytes";
+    time_rounds(FEW_ROUNDS, title, &operands, &ways);
 }
 
 fn prepare<T>(operand: impl FnMut() -> T) -> Vec<T> {

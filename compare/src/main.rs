@@ -1,17 +1,19 @@
-//! The weigher's operations and program beside the machine's, the Rust exp2m1, MPFR and a service written from document 01 alone: test
-//! vectors and streams, comparisons and timings (see README.md).
+//! The weigher's operations and program beside the machine's, the Rust exp2m1, MPFR and a service written from document 01 alone, and its
+//! reader of constants beside C's: test vectors and streams, comparisons and timings (see README.md).
 
 mod bench;
 mod book;
 mod calls;
 mod case;
 mod cases;
+mod constants;
 mod frames;
 mod machine;
 #[cfg(mpfr)]
 mod mpfr;
 mod payloads;
 mod random;
+mod reader;
 mod recorded;
 mod run;
 mod rust;
@@ -24,6 +26,7 @@ mod states;
 mod steps;
 mod streams;
 mod tally;
+mod texts;
 mod throughput;
 mod values;
 mod vectors;
@@ -33,6 +36,7 @@ use std::io;
 use std::process::ExitCode;
 
 const USAGE: &str = "usage: compare run [MILLIONS] | compare mpfr [THOUSANDS] | compare streams [THOUSANDS] | compare calls [THOUSANDS]
+       compare constants [THOUSANDS] | compare constant-lines | compare constant-replies
        compare bench | compare throughput [MEGABYTES] | compare serve [weigher] | compare vectors
        compare score-vectors | compare phase-vectors | compare check-score-vectors | compare screening-vectors
        compare stream | compare short-stream | compare random-stream SEED | compare answers";
@@ -49,6 +53,10 @@ fn main() -> ExitCode {
         ["streams", thousands] => with_number(thousands, streams::compare),
         ["calls"] => succeeds(calls::compare(100)),
         ["calls", thousands] => with_number(thousands, calls::compare),
+        ["constants"] => succeeds(constants::compare(1000)),
+        ["constants", thousands] => with_number(thousands, constants::compare),
+        ["constant-lines"] => written(constants::write_lines()),
+        ["constant-replies"] => written(constants::write_replies()),
         ["throughput"] => succeeds(throughput::run(100)),
         ["throughput", megabytes] => with_number(megabytes, throughput::run),
         ["serve"] => written(serve::serve(&service::REFERENCE)),

@@ -1,6 +1,7 @@
-//! The Rust exp2m1, where compare was built with its source.
+//! The Rust exp2m1 and its reader of hexadecimal floats, where compare was built with the source.
 
-use std::io;
+use std::path::Path;
+use std::{fs, io};
 
 #[cfg(exp2m1)]
 use exp2m1_recorded::calls::OPERANDS;
@@ -65,6 +66,9 @@ pub fn zero(_: &'static str, _: usize) {}
 const TEXT: &str = include_str!("../../target/compare/source/libm/src/math/exp2m1.rs");
 #[cfg(not(exp2m1))]
 const TEXT: &str = "";
+
+/// Where build.sh links the source's folder.
+const SOURCE: &str = "target/compare/source";
 
 /// An error where there is no instance.
 pub fn require() -> io::Result<()> {
@@ -133,4 +137,42 @@ fn hexadecimal(text: &str) -> Option<f64> {
     let significand = u64::from_str_radix(&format!("{whole}{fraction}"), 16).ok()?;
     let exponent = exponent.parse::<i32>().ok()? - 4 * fraction.len() as i32;
     Some(ffi::ldexp(significand as f64, exponent))
+}
+
+/// The pattern that the Rust's own reader, behind `hf64!`, gives for a text that it takes. The inf and nan that it takes too are left out.
+#[cfg(exp2m1)]
+pub fn constant(text: &str) -> Option<u64> {
+    let pattern = exp2m1_machine::parse_hex_exact(text, 64, 52).ok()? as u64;
+    f64::from_bits(pattern).is_finite().then_some(pattern)
+}
+
+#[cfg(not(exp2m1))]
+pub fn constant(_: &str) -> Option<u64> {
+    unreachable!("compare was built without the Rust source")
+}
+
+/// Every hexadecimal float in the files of the source, those of comments too; none where there is no instance.
+pub fn constants() -> io::Result<Vec<String>> {
+    let mut texts = Vec::new();
+    if !INSTANCES.is_empty() {
+        add_constants(Path::new(SOURCE), &mut texts)?;
+    }
+    Ok(texts)
+}
+
+/// A float is a word of letters, digits, points and signs with 0x and a p in it.
+fn add_constants(path: &Path, texts: &mut Vec<String>) -> io::Result<()> {
+    if path.is_dir() {
+        for entry in fs::read_dir(path)? {
+            add_constants(&entry?.path(), texts)?;
+        }
+        return Ok(());
+    }
+    let content = fs::read(path)?;
+    let content = String::from_utf8_lossy(&content);
+    let words = content.split(|c: char| !c.is_ascii_alphanumeric() && !".+-".contains(c));
+    let floats = words.filter(|word| word.contains("0x") && word.contains('p'));
+    // A point at the end is that of a sentence.
+    texts.extend(floats.map(|word| word.trim_end_matches('.').to_string()));
+    Ok(())
 }

@@ -3,7 +3,7 @@
 use crate::random::Random;
 
 pub const SIGN: u64 = 1 << 63;
-const FRACTION: u64 = (1 << 52) - 1;
+pub const FRACTION: u64 = (1 << 52) - 1;
 
 /// One of each class: zero, the least subnormal, one, the largest finite, infinity, a quiet NaN.
 pub const CLASSES: [u64; 6] = [

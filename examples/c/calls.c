@@ -1,6 +1,7 @@
 /* A few calls of each function of weigher.h, with what they return. */
 #include <inttypes.h>
 #include <stdio.h>
+#include <string.h>
 
 #include "weigher.h"
 
@@ -89,6 +90,25 @@ static void payloads(void)
         show_screened(weights, weigher_screening(body + start, 8 * weights));
 }
 
+static void show_constant(const char *text)
+{
+    uint64_t result;
+    unsigned refusal = weigher_constant((const uint8_t *)text, strlen(text), &result);
+    if (refusal == 0)
+        printf("weigher_constant of %s: 0x%016" PRIx64 "\n", text, result);
+    else
+        printf("weigher_constant of %s: refusal %u\n", text, refusal);
+}
+
+static void constants(void)
+{
+    show_constant("0x1.62e42fefa39efp-1");
+    show_constant("-0X.8P+1");
+    show_constant("-0x0p999999999999999999999");
+    show_constant("0x1");                  /* no p */
+    show_constant("0x1.00000000000001p0"); /* 1 + 2^-56 */
+}
+
 int main(void)
 {
     numeric();
@@ -96,5 +116,6 @@ int main(void)
     whole_piece();
     refused_calls();
     payloads();
+    constants();
     return 0;
 }

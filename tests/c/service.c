@@ -1,5 +1,6 @@
-/* The service's calls across the C interface: the layout of its structs, every byte of a state passed and returned, refused calls, buffers
- * that end where memory does, and NULL for what is empty. Says which check failed, and then ends with status 1. */
+/* The calls that take bytes across the C interface: the layout of their structs, every byte of a state passed and returned, refused calls,
+ * buffers that end where memory does, and NULL for what is empty; and the texts of constants. Says which check failed, and then ends with
+ * status 1. */
 #define _DEFAULT_SOURCE
 #include <stddef.h>
 #include <stdint.h>
@@ -159,6 +160,8 @@ static void check_null(void)
     CHECK(weigher_close(weigher_fresh(), NULL, 0).refusal == WEIGHER_SMALL_BUFFER);
     CHECK(weigher_payload(NULL, 0) == 0);
     CHECK(weigher_screening(NULL, 0).tag == WEIGHER_SCREENED_REFUSED);
+    uint64_t result = 1;
+    CHECK(weigher_constant(NULL, 0, &result) == WEIGHER_BAD_TEXT && result == 1);
 }
 
 static void check_payload(void)
@@ -193,6 +196,75 @@ static void check_screening(void)
     }
 }
 
+/* Text and result end where memory does. A text that is refused leaves the result. */
+static void check_constant(const char *text, unsigned number, uint64_t pattern)
+{
+    size_t n = strlen(text);
+    uint8_t *bytes = before_end(n);
+    uint64_t *result = (uint64_t *)before_end(sizeof *result);
+    memcpy(bytes, text, n);
+    int as_it_should = weigher_constant(bytes, n, result) == number && memcmp(bytes, text, n) == 0
+        && (number == 0 ? *result == pattern : untouched((uint8_t *)result, sizeof *result));
+    check_at(__LINE__, as_it_should, text);
+}
+
+/* Digits that fill most of a page, and an exponent that makes up for them. */
+static void check_long_constants(void)
+{
+    static char zeros[3001], text[3100];
+    memset(zeros, '0', sizeof zeros - 1);
+    snprintf(text, sizeof text, "0x.%s3p12004", zeros);
+    check_constant(text, 0, 0x4008000000000000);
+    snprintf(text, sizeof text, "0x3%sp-12000", zeros);
+    check_constant(text, 0, 0x4008000000000000);
+    snprintf(text, sizeof text, "0x3p-%s", zeros);
+    check_constant(text, 0, 0x4008000000000000);
+    snprintf(text, sizeof text, "-0x0p9%s", zeros);
+    check_constant(text, 0, 0x8000000000000000);
+    snprintf(text, sizeof text, "0x1p9%s", zeros);
+    check_constant(text, WEIGHER_INEXACT, 0);
+    snprintf(text, sizeof text, "0x3%s.8p-12000", zeros);
+    check_constant(text, WEIGHER_INEXACT, 0);
+    snprintf(text, sizeof text, "0x3%s.8p-12000.", zeros);
+    check_constant(text, WEIGHER_BAD_TEXT, 0);
+}
+
+static void check_constants(void)
+{
+    static const struct {
+        const char *text;
+        uint64_t pattern;
+    } good[] = {
+        {"0x1.p0", 0x3ff0000000000000},
+        {"0x.8p0", 0x3fe0000000000000},
+        {"+0x00.00P-0", 0},
+        {"-0x0p999999999999999999999", 0x8000000000000000},
+        {"0x10000000000000000000000000p-100", 0x3ff0000000000000},
+        {"0x1.62e42fefa39efp-1", 0x3fe62e42fefa39ef},
+        {"-0X1.8P+1", 0xc008000000000000},
+        {"0x1.AbCdEfP00000000000000000000000000000", 0x3ffabcdef0000000},
+        {"0x1.fffffffffffffp1023", 0x7fefffffffffffff},
+        {"0x1p-1022", 0x0010000000000000},
+        {"0x1p-1074", 1},
+        {"0x6p-1075", 3},
+    };
+    static const char *const malformed[] = {
+        "", "0x", "0xp0", "0x.p0", "0x1", "0x1p", "0x1p+", "0x1.0.0p0", "0x1p0 ", " 0x1p0", "0x1p0x", "1p0", "--0x1p0", "0x1p+-1",
+        "0x1g0p0", "0x1.00000000000001p0x", "inf", "nan", "1.5",
+    };
+    static const char *const inexact[] = {
+        "0x1.00000000000001p0", "0x3fffffffffffffp0", "0x1.fffffffffffff8p1023", "0x1p1024", "-0x1p-1075", "0x3p-1075",
+        "0x1p18446744073709551616",
+    };
+    for (size_t i = 0; i < sizeof good / sizeof good[0]; i++)
+        check_constant(good[i].text, 0, good[i].pattern);
+    for (size_t i = 0; i < sizeof malformed / sizeof malformed[0]; i++)
+        check_constant(malformed[i], WEIGHER_BAD_TEXT, 0);
+    for (size_t i = 0; i < sizeof inexact / sizeof inexact[0]; i++)
+        check_constant(inexact[i], WEIGHER_INEXACT, 0);
+    check_long_constants();
+}
+
 int main(void)
 {
     CHECK(same(weigher_fresh(), state_of(0)));
@@ -203,5 +275,6 @@ int main(void)
     check_null();
     check_payload();
     check_screening();
+    check_constants();
     return 0;
 }

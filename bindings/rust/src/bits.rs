@@ -1,6 +1,6 @@
-//! The numeric functions on patterns: the bits of an `f64` as a `u64`.
+//! The numeric functions and constants as patterns: the bits of an `f64` as a `u64`.
 
-use crate::ffi;
+use crate::{Refusal, ffi};
 
 /// The pattern of every NaN that a function returns.
 pub const NAN: u64 = 0x7ff8000000000000;
@@ -50,4 +50,22 @@ pub fn floor(x: u64) -> u64 {
 /// ```
 pub fn scale(x: u64, n: i32) -> u64 {
     ffi::weigher_scale(x, n)
+}
+
+/// The float that a text stands for, as [`weigher::constant`](crate::constant) reads it.
+///
+/// ```
+/// use weigher::{Refusal, bits};
+/// assert_eq!(bits::constant(b"0x1.62e42fefa39efp-1"), Ok(0x3fe62e42fefa39ef));
+/// assert_eq!(bits::constant(b"-0x0p999999999999999999999"), Ok(0x8000000000000000));
+/// assert_eq!(bits::constant(b"0x1p-1075"), Err(Refusal::Inexact)); // half of the least float
+/// ```
+pub fn constant(text: &[u8]) -> Result<u64, Refusal> {
+    let mut result = 0;
+    // SAFETY: pointer and length are those of a slice, and the result is apart from it.
+    let number = unsafe { ffi::weigher_constant(text.as_ptr(), text.len(), &mut result) };
+    match Refusal::from_number(number) {
+        Some(refusal) => Err(refusal),
+        None => Ok(result),
+    }
 }

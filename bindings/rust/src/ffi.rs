@@ -44,7 +44,8 @@ const _: () = assert!(size_of::<Closed>() == 544 && offset_of!(Closed, refusal) 
 const _: () = assert!(size_of::<HandedOn>() == 552 && offset_of!(HandedOn, refusal) == 544);
 const _: () = assert!(size_of::<Screened>() == 16 && offset_of!(Screened, number) == 8);
 
-// Those that take no pointer ask nothing of their arguments. For the others a pointer and the length behind it are a slice's.
+// Those that take no pointer ask nothing of their arguments. For the others a pointer and the length behind it are a slice's, and a result
+// is a place that may be written.
 unsafe extern "C" {
     pub safe fn weigher_fresh() -> State;
     pub fn weigher_take(
@@ -70,4 +71,6 @@ unsafe extern "C" {
     pub safe fn weigher_round(x: u64) -> u64;
     pub safe fn weigher_floor(x: u64) -> u64;
     pub safe fn weigher_scale(x: u64, n: i32) -> u64;
+
+    pub fn weigher_constant(text: *const u8, text_len: usize, result: *mut u64) -> u8;
 }

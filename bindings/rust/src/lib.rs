@@ -69,3 +69,24 @@ pub fn floor(x: f64) -> f64 {
 pub fn scale(x: f64, n: i32) -> f64 {
     f64::from_bits(bits::scale(x.to_bits(), n))
 }
+
+/// The float that a C23 hexadecimal text stands for, exactly: `+` or `-` or neither, `0x`, hexadecimal digits with at most one point, `p`,
+/// `+` or `-` or neither, and decimal digits. At least one digit stands between `0x` and `p`, and at least one behind `p`; letters may be
+/// of either case. A zero keeps the text's sign, with every exponent.
+///
+/// A text of any other form is refused by [`Refusal::BadText`], and else a value that is not exactly a finite float by
+/// [`Refusal::Inexact`].
+///
+/// ```
+/// use weigher::{Refusal, constant};
+/// assert_eq!(constant(b"0x1.62e42fefa39efp-1"), Ok(std::f64::consts::LN_2));
+/// assert_eq!(constant(b"-0X.8P+1"), Ok(-1.0));
+/// let zero = constant(b"-0x0p999999999999999999999")?;
+/// assert!(zero == 0.0 && zero.is_sign_negative());
+/// assert_eq!(constant(b"0x1"), Err(Refusal::BadText));
+/// assert_eq!(constant(b"0x1.00000000000001p0"), Err(Refusal::Inexact)); // 1 + 2^-56
+/// # Ok::<(), Refusal>(())
+/// ```
+pub fn constant(text: &[u8]) -> Result<f64, Refusal> {
+    bits::constant(text).map(f64::from_bits)
+}

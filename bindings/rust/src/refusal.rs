@@ -1,7 +1,7 @@
 use std::error::Error;
 use std::fmt;
 
-/// Why a frame or a call was refused. The numbers are those of the protocol.
+/// Why a frame, a call or a text was refused. The numbers are those of the protocol.
 ///
 /// ```
 /// use weigher::Refusal;
@@ -29,6 +29,10 @@ pub enum Refusal {
     BadState = 7,
     /// The stream ended inside a frame.
     Unfinished = 8,
+    /// A text has not the form of a [`constant`](crate::constant).
+    BadText = 9,
+    /// The value of a constant's text is not exactly a finite float.
+    Inexact = 10,
 }
 
 impl Refusal {
@@ -46,6 +50,8 @@ impl Refusal {
             6 => Refusal::SmallBuffer,
             7 => Refusal::BadState,
             8 => Refusal::Unfinished,
+            9 => Refusal::BadText,
+            10 => Refusal::Inexact,
             _ => return None,
         })
     }
@@ -62,6 +68,8 @@ impl fmt::Display for Refusal {
             Refusal::SmallBuffer => "the buffer has under 516 bytes",
             Refusal::BadState => "the state is one that no bytes leave",
             Refusal::Unfinished => "the stream ended inside a frame",
+            Refusal::BadText => "the text has not the form of a constant",
+            Refusal::Inexact => "the text's value is not exactly a finite float",
         })
     }
 }

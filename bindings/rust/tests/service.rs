@@ -161,6 +161,15 @@ fn frame(kind: u8, items: &[f64]) -> Vec<u8> {
 }
 
 #[test]
+fn refusals_and_their_numbers() {
+    for number in 0..=u8::MAX {
+        let refusal = Refusal::from_number(number);
+        assert_eq!(refusal.is_some(), (1..=10).contains(&number), "{number}");
+        assert!(refusal.is_none_or(|refusal| refusal.number() == number));
+    }
+}
+
+#[test]
 fn results_of_a_refused_frame() {
     let mut stream = Stream::new();
     let answer = stream.feed(&frame(7, &[])).next().unwrap();

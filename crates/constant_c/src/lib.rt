@@ -1,0 +1,21 @@
+// constant for C, declared in include/weigher.h. C has no enum with values: a reply is the number that is returned, 0 where the text is
+// read, and the float behind the pointer (specs/Told.antt).
+ghost use mathlib.Core.Path.{_≡_};
+ghost use Rattle.constant.specs.Constant.{constantOf};
+ghost use Rattle.constant_c.specs.Told.{number, result};
+use constant::Reply;
+
+// Reads a constant's text. Where it is refused, the result keeps its content.
+#[no_mangle]
+pub extern "C" fn weigher_constant(text: &[u8], out: &mut u64) -> u8
+    ensures { λ r. ⌜ (r ≡ number (constantOf (now (text .entry)))) × (now (out .exit) ≡ result (constantOf (now (text .entry))) (now (out .entry))) ⌝ }
+{
+    let reply = constant::constant(text);
+    match reply {
+        Reply::Refused(number) => number,
+        Reply::Bits(bits) => {
+            *out = bits;
+            0
+        }
+    }
+}
