@@ -10,47 +10,57 @@ ghost use Prim.Native.Nat.{ℕ, _+_, _-_, _≤_};
 ghost use lib.ListN.{length};
 ghost use Rattle.constant.specs.Machine.{Within, mostPlaces};
 
-// Room for a line of the output: a word, a number of up to 20 digits and the line's end.
-const LINE_ROOM: usize = 29;
-
-// Puts bytes into out, and answers where they end.
-fn put(out: &mut [u8], at: usize, bytes: &[u8]) -> usize
-    requires { ⌜ at + length (now bytes) ≤ length (now out) ⌝ }
-    ensures { λ r. ⌜ (r ≡ at + length (now (bytes .entry))) × (length (now (out .exit)) ≡ length (now (out .entry))) ⌝ }
+fn glyph(digit: u64) -> u8
+    requires { ⌜ digit ≤ 15 ⌝ }
 {
-    bytes::copy(bytes, &mut out[at..]);
-    at + bytes.len()
+    if digit < 10 {
+        (48 + digit) as u8
+    } else {
+        (87 + digit) as u8
+    }
 }
 
-fn put_pattern(out: &mut [u8], at: usize, bits: u64) -> usize
-    requires { ⌜ at + 29 ≤ length (now out) ⌝ }
-    ensures { λ r. ⌜ (r ≤ at + 29) × (length (now (out .exit)) ≡ length (now (out .entry))) ⌝ }
-{
-    let mut digits = [0u8; 16];
-    let count = io::hex(bits, 16, &mut digits);
-    let start = put(out, at, b"0x");
-    let end = put(out, start, &digits[..count]);
-    put(out, end, b"\n")
+fn write_pattern(bits: u64) -> bool {
+    let mut line = *b"0x................\n";
+    let mut rest = bits;
+    let mut i = 18;
+    while 2 < i {
+        i -= 1;
+        line[i] = glyph(rest % 16);
+        rest = rest / 16;
+    }
+    stdio::write_out(&line)
 }
 
-fn put_refusal(out: &mut [u8], at: usize, number: u8) -> usize
-    requires { ⌜ at + 29 ≤ length (now out) ⌝ }
-    ensures { λ r. ⌜ (r ≤ at + 29) × (length (now (out .exit)) ≡ length (now (out .entry))) ⌝ }
-{
-    let mut digits = [0u8; 20];
-    let count = io::decimal(number as u64, &mut digits);
-    let start = put(out, at, b"refused ");
-    let end = put(out, start, &digits[..count]);
-    put(out, end, b"\n")
+// A refusal's number has two digits at most.
+fn write_refusal(number: u8) -> bool {
+    let tens = glyph((number / 10 % 10) as u64);
+    let units = glyph((number % 10) as u64);
+    if number < 10 {
+        return stdio::write_out(&[b'r', b'e', b'f', b'u', b's', b'e', b'd', b' ', units, b'\n']);
+    }
+    stdio::write_out(
+        &[
+            b'r',
+            b'e',
+            b'f',
+            b'u',
+            b's',
+            b'e',
+            b'd',
+            b' ',
+            tens,
+            units,
+            b'\n',
+        ],
+    )
 }
 
-fn put_reply(out: &mut [u8], at: usize, reply: Reply) -> usize
-    requires { ⌜ at + 29 ≤ length (now out) ⌝ }
-    ensures { λ r. ⌜ (r ≤ at + 29) × (length (now (out .exit)) ≡ length (now (out .entry))) ⌝ }
-{
+// Writes a line; false where the output takes no more.
+fn write_reply(reply: Reply) -> bool {
     match reply {
-        Reply::Refused(number) => put_refusal(out, at, number),
-        Reply::Bits(bits) => put_pattern(out, at, bits),
+        Reply::Refused(number) => write_refusal(number),
+        Reply::Bits(bits) => write_pattern(bits),
     }
 }
 
@@ -62,41 +72,38 @@ struct Progress {
 }
 
 // Reads a piece of the input, and writes the replies to the lines that end in it.
-fn read_lines(reading: Reading, begun: bool, piece: &[u8], out: &mut [u8]) -> Progress
-    requires { ⌜ Within (mostPlaces - length (now piece)) reading × (29 ≤ length (now out)) ⌝ }
-    ensures { λ r. ⌜ ((n : ℕ) → Within n reading → Within (n + length (now (piece .entry))) (r .reading)) × (length (now (out .exit)) ≡ length (now (out .entry))) ⌝ }
+fn read_lines(reading: Reading, begun: bool, piece: &[u8]) -> Progress
+    requires { ⌜ Within (mostPlaces - length (now piece)) reading ⌝ }
+    ensures { λ r. ⌜ ((n : ℕ) → Within n reading → Within (n + length (now (piece .entry))) (r .reading)) ⌝ }
 {
     let mut reading = reading;
     let mut begun = begun;
-    let mut filled = 0;
     let mut at = 0;
     while at < piece.len() {
         let end = bytes::scan::find(piece, at, piece.len(), b'\n');
         reading = constant::read_on(reading, &piece[at..end]);
-        begun = true;
-        at = end;
-        if end < piece.len() {
-            if out.len() - filled < LINE_ROOM {
-                if !stdio::write_out(&out[..filled]) {
-                    return Progress {
-                        reading,
-                        begun,
-                        open: false,
-                    };
-                }
-                filled = 0;
-            }
-            filled = put_reply(out, filled, constant::finish(reading));
-            reading = constant::fresh();
-            begun = false;
-            at = end + 1;
+        if end == piece.len() {
+            return Progress {
+                reading,
+                begun: true,
+                open: true,
+            };
         }
+        if !write_reply(constant::finish(reading)) {
+            return Progress {
+                reading,
+                begun: true,
+                open: false,
+            };
+        }
+        reading = constant::fresh();
+        begun = false;
+        at = end + 1;
     }
-    let open = stdio::write_out(&out[..filled]);
     Progress {
         reading,
         begun,
-        open,
+        open: true,
     }
 }
 
@@ -105,9 +112,7 @@ fn finish(reading: Reading, begun: bool)
     requires { ⌜ Within mostPlaces reading ⌝ }
 {
     if begun {
-        let mut out = [0u8; LINE_ROOM];
-        let len = put_reply(&mut out, 0, constant::finish(reading));
-        if !stdio::write_out(&out[..len]) {
+        if !write_reply(constant::finish(reading)) {
             stdio::output_failed();
         }
     }
@@ -115,7 +120,6 @@ fn finish(reading: Reading, begun: bool)
 
 fn main() {
     let mut input = io::large_buffer();
-    let mut out = io::large_buffer();
     let mut reading = constant::fresh();
     let mut begun = false;
     // So many reads of 65,536 bytes are 2^63 bytes: more than come in a machine's life.
@@ -131,7 +135,7 @@ fn main() {
             return;
         }
         let n = io::count(got, &input);
-        let progress = read_lines(reading, begun, &input[..n], &mut out);
+        let progress = read_lines(reading, begun, &input[..n]);
         reading = progress.reading;
         begun = progress.begun;
         if !progress.open {

@@ -5,7 +5,6 @@ use mathlib.Core.List.{List}
 use native.Mathlib.Omega.{arith}
 use lib.ListN.{length}
 use Rattle.constant.specs.declared.Reading.{Reading}
-
 use Rattle.constant.specs.Machine.{Within, mostPlaces, readFrom, unread, Finishes}
 use Rattle.constant.proofs.Kept.{within-le, within-read, within-unread}
 use Rattle.constant.proofs.Replies.{read-reply}
