@@ -3,7 +3,7 @@ use Prim.Native.Nat.{ℕ, zero, suc, _+_, _*_, _/_, _%_, _^_, _≤_, _<_}
 use native.Mathlib.Nat.{pow-suc}
 use native.Mathlib.Numerals.{add-one}
 use native.Mathlib.Omega.{arith}
-use mathlib.Core.Path.{_≡_, refl, ap, _∙_}
+use mathlib.Core.Path.{_≡_, refl, ap, _∙_, sym}
 use mathlib.Core.Bool.{Bool, true, false, not, _||_, cond}
 use mathlib.Core.Logic.{inl, inr, ⊎-elim}
 use mathlib.Core.List.{List, [], _∷_, _++_}
@@ -122,9 +122,11 @@ dropped-places : (after : Bool) (x low r places : ℕ) → x + low ≡ r + place
 dropped-places true x low r places e = omega arith
 dropped-places false x low r places e = omega arith
 
-lost-more : (rest d : ℕ) → (not (eqb rest 0) || not (eqb d 0)) ≡ not (eqb (rest * 16 + d) 0)
-lost-more zero d = let e : 0 * 16 + d ≡ d = omega arith in rw e
-lost-more (suc rest) d = rw (ne-eqb (suc rest) 0 (λ e. omega arith), ne-eqb (suc rest * 16 + d) 0 (λ e. omega arith))
+lost-more : (lost rest d : ℕ) → eqb lost 0 ≡ eqb rest 0 → eqb (cond (eqb d 0) lost d) 0 ≡ eqb (rest * 16 + d) 0
+lost-more lost zero zero e = e
+lost-more lost (suc rest) zero e = e ∙ ne-eqb (suc rest) 0 (λ f. omega arith) ∙ sym (ne-eqb (suc rest * 16 + 0) 0 (λ f. omega arith))
+lost-more lost rest (suc d) e = let some : eqb (suc d) 0 ≡ false = ne-eqb (suc d) 0 (λ f. omega arith) in
+    ap (λ (t : Bool). eqb (cond t lost (suc d)) 0) some ∙ some ∙ sym (ne-eqb (rest * 16 + suc d) 0 (λ f. omega arith))
 
 pub kept-digit : (s : Significand) (n places d : ℕ) (after : Bool) → d < 16 → Kept s n places → Kept (withDigit s d after) (n * 16 + d) (cond after (places + 1) places)
 unfolding withDigit
@@ -149,7 +151,7 @@ kept-digit s n places d after l k =
       is = rw more (omega arith);
       less = omega arith;
       counted = dropped-places after _ _ _ _ (k .counted);
-      lost = rw (k .lost) (lost-more (k .rest) d);
+      lost = lost-more (s .lost) (k .rest) d (k .lost);
       small = k .small;
       full = inr (ltb-false _ _ e);
     })

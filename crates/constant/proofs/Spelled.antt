@@ -24,14 +24,14 @@ record At (r : Reading) (s : Stage) (m : Bool) (n places : ℕ) (below : Bool) (
   stage : r .stage ≡ s
   negative : r .negative ≡ m
   kept : Kept (r .significand) n places
-  down : r .power .negative ≡ below
+  down : r .inverse ≡ below
   counts : Counts (r .power) power
 
 pushed-to : (r : Reading) (b : ℕ) {s t : Stage} → r .stage ≡ s → nextStage s b ≡ t → pushed r b ≡ movedTo t r b
 unfolding pushed
 pushed-to r b e k = ap (λ (s : Stage). movedTo s r b) (ap (λ (s : Stage). nextStage s b) e ∙ k)
 
-moved : (t : Stage) (r : Reading) (b : ℕ) {s : Stage} {m below : Bool} {n places power : ℕ} → r .stage ≡ s → nextStage s b ≡ t → movedTo t r b .negative ≡ m → Kept (movedTo t r b .significand) n places → movedTo t r b .power .negative ≡ below → Counts (movedTo t r b .power) power → At (pushed r b) t m n places below power
+moved : (t : Stage) (r : Reading) (b : ℕ) {s : Stage} {m below : Bool} {n places power : ℕ} → r .stage ≡ s → nextStage s b ≡ t → movedTo t r b .negative ≡ m → Kept (movedTo t r b .significand) n places → movedTo t r b .inverse ≡ below → Counts (movedTo t r b .power) power → At (pushed r b) t m n places below power
 moved t r b e k negative kept down counts = rw (pushed-to r b e k) (record { stage = stage-moved t r b; negative = negative; kept = kept; down = down; counts = counts })
 
 -- a part that starts at the stage that its bytes lead to
@@ -65,7 +65,7 @@ at-signed (b ∷ d ∷ l) once leads a = absurd (not-suc-le-zero (le-of-suc-le-s
 at-exponent-signed : (l : List ℕ) {r : Reading} {s : Stage} {m : Bool} {n places power : ℕ} → length l ≤ 1 → Leads s l ExponentSigned → At r s m n places false power → At (readFrom r l) (endOf s l ExponentSigned) m n places (isMinus l) power
 unfolding readFrom movedTo
 at-exponent-signed [] once leads a = a
-at-exponent-signed (b ∷ []) {r} once leads a = moved ExponentSigned r b (a .stage) (leads .0) (a .negative) (a .kept) refl (record { quotient = a .counts .quotient; remainder = a .counts .remainder })
+at-exponent-signed (b ∷ []) {r} once leads a = moved ExponentSigned r b (a .stage) (leads .0) (a .negative) (a .kept) refl (a .counts)
 at-exponent-signed (b ∷ d ∷ l) once leads a = absurd (not-suc-le-zero (le-of-suc-le-suc once))
 
 both : (a b : Bool) → T (a && b) → T a × T b
@@ -102,7 +102,7 @@ numberFrom-append base n (x ∷ a) b = numberFrom-append base (n * base + digitO
 pub record Read (r : Reading) (parts : Parts) : Type 0 where
   pub stage : r .stage ≡ Exponent
   pub negative : r .negative ≡ negative parts
-  pub holds : Holds (r .significand) (r .power) (num parts) (den parts)
+  pub holds : Holds (r .significand) (r .power) (r .inverse) (num parts) (den parts)
 
 read-at : (parts : Parts) {r : Reading} → At r Exponent (negative parts) (numberFrom 16 (numberFrom 16 0 (parts .whole)) (parts .fraction)) (0 + length (parts .fraction)) (isMinus (parts .exponentSign)) (numberFrom 10 0 (parts .exponent)) → Read r parts
 read-at parts a =

@@ -8,7 +8,7 @@ use native.Mathlib.Nat.{le-trans, le-of-eq, le-refl, lt-of-lt-of-le, not-le-of-l
 use native.Mathlib.Omega.{arith}
 use lib.Dec.{ltb, eqb, lit≤, lit<}
 use lib.Pow.{pow-add, pow-pos, pow-mono, shl-lt}
-use borrow.Author.Tests.{eqb-true, eqb-false, not-true, not-false, lt-ltb, ltb-true, ltb-false}
+use borrow.Author.Tests.{eqb-true, eqb-false, eq-eqb, ne-eqb, lt-ltb, ltb-true, ltb-false}
 use Rattle.wide.proofs.Nat.{le-or-gt}
 use Rattle.rounding.specs.Machine.{signBit}
 use Rattle.constant.specs.declared.Reply.{Reply}
@@ -49,9 +49,9 @@ lost-none n q a b t v rest is less some wide Q h = ⊎-elim low high (le-or-gt (
 nothing : (d r : ℕ) → d ≡ 0 → r < 16 ^ d → r ≡ 0
 nothing d r g l = let m : 16 ^ d ≡ 1 = ap (λ (x : ℕ). 16 ^ x) g in omega arith
 
-kept-number : (s : Significand) (n places : ℕ) → Kept s n places → s .lost ≡ false → n * 16 ^ s .lowered ≡ s .value * (16 ^ s .raised * 16 ^ places)
+kept-number : (s : Significand) (n places : ℕ) → Kept s n places → s .lost ≡ 0 → n * 16 ^ s .lowered ≡ s .value * (16 ^ s .raised * 16 ^ places)
 kept-number s n places k l =
-    ap (λ (x : ℕ). x * 16 ^ s .lowered) (k .is ∙ ap (λ (x : ℕ). s .value * 16 ^ k .dropped + x) (eqb-true (k .rest) 0 (not-false (eqb (k .rest) 0) (sym (k .lost) ∙ l))) ∙ add-zero (s .value * 16 ^ k .dropped))
+    ap (λ (x : ℕ). x * 16 ^ s .lowered) (k .is ∙ ap (λ (x : ℕ). s .value * 16 ^ k .dropped + x) (eqb-true (k .rest) 0 (sym (k .lost) ∙ eq-eqb (s .lost) 0 l)) ∙ add-zero (s .value * 16 ^ k .dropped))
     ∙ mul-assoc (s .value) (16 ^ k .dropped) (16 ^ s .lowered)
     ∙ ap (λ (x : ℕ). s .value * x) (sym (pow-add 16 (k .dropped) (s .lowered)) ∙ ap (λ (x : ℕ). 16 ^ x) (k .counted) ∙ pow-add 16 (s .raised) places)
 
@@ -81,9 +81,9 @@ beyond n q p a b = omega arith
 den-pos : (b : Bool) (places power : ℕ) {den : ℕ} → den ≡ 16 ^ places * cond b (2 ^ power) 1 → 0 < den
 den-pos b places power h = lt-of-lt-of-le (line-pos b places power) (le-of-eq (sym h))
 
-module _ (s : Significand) (e : Power) (neg : Bool) where
-  pub zero-value : (sign : ℕ) → s .value ≡ 0 → sign ≡ signBit neg → (num den : ℕ) → Holds s e num den → Bits sign ≡ exactly neg num den
-  zero-value sign v b num den h = ap Bits (b ∙ sym (add-zero (signBit neg))) ∙ sym (exactly-bits neg num den 0 0 (den-pos (e .negative) (h .places) (h .power) (h .den-is)) (record { small = lit< tt; kept = inl refl; most = lit≤ tt; is = ap (λ (x : ℕ). x * 2 ^ 1074) none ∙ zero-mul (2 ^ 1074) ∙ sym (zero-mul den) }))
+module _ (s : Significand) (e : Power) (inverse neg : Bool) where
+  pub zero-value : (sign : ℕ) → s .value ≡ 0 → sign ≡ signBit neg → (num den : ℕ) → Holds s e inverse num den → Bits sign ≡ exactly neg num den
+  zero-value sign v b num den h = ap Bits (b ∙ sym (add-zero (signBit neg))) ∙ sym (exactly-bits neg num den 0 0 (den-pos inverse (h .places) (h .power) (h .den-is)) (record { small = lit< tt; kept = inl refl; most = lit≤ tt; is = ap (λ (x : ℕ). x * 2 ^ 1074) none ∙ zero-mul (2 ^ 1074) ∙ sym (zero-mul den) }))
     where
       number-zero : (k : Kept s (h .number) (h .places)) → h .number ≡ 0
       number-zero k = ⊎-elim (λ g. k .is ∙ ap₂ (λ (x y : ℕ). x * 16 ^ k .dropped + y) v (nothing (k .dropped) (k .rest) g (k .less)) ∙ add-zero (0 * 16 ^ k .dropped) ∙ zero-mul (16 ^ k .dropped)) (λ g. absurd (full (s .value) v g)) (k .full)
@@ -92,16 +92,16 @@ module _ (s : Significand) (e : Power) (neg : Bool) where
           full x a b = omega arith
 
       none : num ≡ 0
-      none = h .num-is ∙ ap (λ (x : ℕ). x * cond (e .negative) 1 (2 ^ h .power)) (number-zero (h .kept)) ∙ zero-mul (cond (e .negative) 1 (2 ^ h .power))
+      none = h .num-is ∙ ap (λ (x : ℕ). x * cond inverse 1 (2 ^ h .power)) (number-zero (h .kept)) ∙ zero-mul (cond inverse 1 (2 ^ h .power))
 
-  pub lost-value : s .lost ≡ true → (num den : ℕ) → Holds s e num den → Refused 10 ≡ exactly neg num den
-  lost-value l num den h = sym (exactly-none neg num den (den-pos (e .negative) (h .places) (h .power) (h .den-is)) none)
+  pub lost-value : (s .lost ≡ 0 → ⊥) → (num den : ℕ) → Holds s e inverse num den → Refused 10 ≡ exactly neg num den
+  lost-value l num den h = sym (exactly-none neg num den (den-pos inverse (h .places) (h .power) (h .den-is)) none)
     where
       k : Kept s (h .number) (h .places)
       k = h .kept
 
       some : k .rest ≡ 0 → ⊥
-      some = eqb-false (k .rest) 0 (not-true (eqb (k .rest) 0) (sym (k .lost) ∙ l))
+      some = eqb-false (k .rest) 0 (sym (k .lost) ∙ ne-eqb (s .lost) 0 l)
 
       digits : 2 ^ 53 ≤ s .value
       digits = ⊎-elim (λ g. absurd (some (nothing (k .dropped) (k .rest) g (k .less)))) (λ g. le-trans (lit≤ tt) g) (k .full)
@@ -127,16 +127,16 @@ module _ (s : Significand) (e : Power) (neg : Bool) where
           below = ap (λ (x : ℕ). q * 2 ^ j * x) (mul-one (16 ^ h .places) ∙ sixteen (h .places)) ∙ mul-assoc q (2 ^ j) (2 ^ (4 * h .places)) ∙ ap (λ (x : ℕ). q * x) (sym (pow-add 2 j (4 * h .places)))
 
       none : (q j : ℕ) → Finite num den q j → ⊥
-      none q j f = sides (e .negative) q j (ap (λ (x : ℕ). x * 2 ^ 1074) (sym (h .num-is)) ∙ f .is ∙ ap (λ (x : ℕ). q * 2 ^ j * x) (h .den-is)) (f .small)
+      none q j f = sides inverse q j (ap (λ (x : ℕ). x * 2 ^ 1074) (sym (h .num-is)) ∙ f .is ∙ ap (λ (x : ℕ). q * 2 ^ j * x) (h .den-is)) (f .small)
 
-  module _ (l : s .lost ≡ false) (num den : ℕ) (h : Holds s e num den) where
+  module _ (l : s .lost ≡ 0) (num den : ℕ) (h : Holds s e inverse num den) where
     number-is : h .number * 16 ^ s .lowered ≡ s .value * (16 ^ s .raised * 16 ^ h .places)
     number-is = kept-number s (h .number) (h .places) (h .kept) l
 
     positive-den : 0 < den
-    positive-den = den-pos (e .negative) (h .places) (h .power) (h .den-is)
+    positive-den = den-pos inverse (h .places) (h .power) (h .den-is)
 
-    module _ (n : e .negative ≡ false) where
+    module _ (n : inverse ≡ false) where
       num-above : num ≡ h .number * 2 ^ h .power
       num-above = h .num-is ∙ ap (λ (b : Bool). h .number * cond b 1 (2 ^ h .power)) n
 
@@ -185,7 +185,7 @@ module _ (s : Significand) (e : Power) (neg : Bool) where
           turned : (a b c d f : ℕ) → a * (b * c) * (d * f) ≡ a * f * (b * d) * c
           turned a b c d f = simp (mul-assoc, mul-comm, mul-left-comm)
 
-    module _ (n : e .negative ≡ true) where
+    module _ (n : inverse ≡ true) where
       num-below : num ≡ h .number
       num-below = h .num-is ∙ ap (λ (b : Bool). h .number * cond b 1 (2 ^ h .power)) n ∙ mul-one (h .number)
 

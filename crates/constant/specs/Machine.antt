@@ -3,7 +3,7 @@
 use Prim.Native.Nat.{ℕ, _+_, _*_, _/_, _%_, _^_, _≤_, _<_}
 use mathlib.Core.Path.{_≡_}
 use mathlib.Core.Logic.{_⊎_}
-use mathlib.Core.Bool.{Bool, true, false, not, _||_, cond}
+use mathlib.Core.Bool.{Bool, true, false, cond}
 use mathlib.Core.List.{List, [], _∷_}
 use lib.Dec.{ltb, eqb}
 use Rattle.rounding.specs.Machine.{signBit}
@@ -25,7 +25,7 @@ unfoldable pub withDigit : Significand → ℕ → Bool → Significand
 withDigit s d after =
     cond (ltb (s .value) 0x100000000000000)
     (record { value = s .value * 16 + d; raised = s .raised; lowered = cond after (s .lowered + 1) (s .lowered); lost = s .lost })
-    (record { value = s .value; raised = cond after (s .raised) (s .raised + 1); lowered = s .lowered; lost = s .lost || not (eqb d 0) })
+    (record { value = s .value; raised = cond after (s .raised) (s .raised + 1); lowered = s .lowered; lost = cond (eqb d 0) (s .lost) d })
 
 -- the most that a quotient is counted to
 abbrev pub most : ℕ
@@ -35,28 +35,27 @@ most = 18446744073709551610
 unfoldable pub withDecimal : Power → ℕ → Power
 withDecimal e d =
     record {
-      negative = e .negative;
       quotient = cond (ltb (e .quotient) 1844674407370955161) (e .quotient * 10 + (e .remainder * 10 + d) / 4) most;
       remainder = (e .remainder * 10 + d) % 4;
     }
 
 abbrev pub staged : Stage → Reading → Reading
-staged s r = record { stage = s; negative = r .negative; significand = r .significand; power = r .power }
+staged s r = record { stage = s; negative = r .negative; inverse = r .inverse; significand = r .significand; power = r .power }
 
 -- a reading that comes to a stage by the byte b
 unfoldable pub movedTo : Stage → Reading → ℕ → Reading
 unfolding withDigit withDecimal digitOf
 movedTo Start r b = staged Start r
-movedTo Signed r b = record { stage = Signed; negative = eqb b 45; significand = r .significand; power = r .power }
+movedTo Signed r b = record { stage = Signed; negative = eqb b 45; inverse = r .inverse; significand = r .significand; power = r .power }
 movedTo Zero r b = staged Zero r
 movedTo Prefix r b = staged Prefix r
-movedTo Whole r b = record { stage = Whole; negative = r .negative; significand = withDigit (r .significand) (digitOf b) false; power = r .power }
+movedTo Whole r b = record { stage = Whole; negative = r .negative; inverse = r .inverse; significand = withDigit (r .significand) (digitOf b) false; power = r .power }
 movedTo LonePoint r b = staged LonePoint r
 movedTo Point r b = staged Point r
-movedTo Fraction r b = record { stage = Fraction; negative = r .negative; significand = withDigit (r .significand) (digitOf b) true; power = r .power }
+movedTo Fraction r b = record { stage = Fraction; negative = r .negative; inverse = r .inverse; significand = withDigit (r .significand) (digitOf b) true; power = r .power }
 movedTo P r b = staged P r
-movedTo ExponentSigned r b = record { stage = ExponentSigned; negative = r .negative; significand = r .significand; power = record { negative = eqb b 45; quotient = r .power .quotient; remainder = r .power .remainder } }
-movedTo Exponent r b = record { stage = Exponent; negative = r .negative; significand = r .significand; power = withDecimal (r .power) (digitOf b) }
+movedTo ExponentSigned r b = record { stage = ExponentSigned; negative = r .negative; inverse = eqb b 45; significand = r .significand; power = r .power }
+movedTo Exponent r b = record { stage = Exponent; negative = r .negative; inverse = r .inverse; significand = r .significand; power = withDecimal (r .power) (digitOf b) }
 movedTo Malformed r b = staged Malformed r
 
 unfoldable pub pushed : Reading → ℕ → Reading
@@ -70,7 +69,7 @@ readFrom r (b ∷ text) = readFrom (pushed r b) text
 
 -- before the first byte
 abbrev pub unread : Reading
-unread = record { stage = Start; negative = false; significand = record { value = 0; raised = 0; lowered = 0; lost = false }; power = record { negative = false; quotient = 0; remainder = 0 } }
+unread = record { stage = Start; negative = false; inverse = false; significand = record { value = 0; raised = 0; lowered = 0; lost = 0 }; power = record { quotient = 0; remainder = 0 } }
 
 -- at most n places have been counted
 pub record Within (n : ℕ) (r : Reading) : Type 0 where
@@ -91,7 +90,7 @@ pub record Kept (s : Significand) (n places : ℕ) : Type 0 where
   pub is : n ≡ s .value * 16 ^ dropped + rest
   pub less : rest < 16 ^ dropped
   pub counted : dropped + s .lowered ≡ s .raised + places
-  pub lost : s .lost ≡ not (eqb rest 0)
+  pub lost : eqb (s .lost) 0 ≡ eqb rest 0
   pub small : s .value < 0x1000000000000000
   pub full : (dropped ≡ 0) ⊎ (0x100000000000000 ≤ s .value)
 
@@ -100,20 +99,20 @@ pub record Counts (e : Power) (n : ℕ) : Type 0 where
   pub quotient : e .quotient ≡ cond (ltb (n / 4) most) (n / 4) most
   pub remainder : e .remainder ≡ n % 4
 
--- s and e are what is kept of num / den
-pub record Holds (s : Significand) (e : Power) (num den : ℕ) : Type 0 where
+-- s and e are what is kept of num / den, of whose power of two `inverse` says on which side of the line it stands
+pub record Holds (s : Significand) (e : Power) (inverse : Bool) (num den : ℕ) : Type 0 where
   pub number : ℕ
   pub places : ℕ
   pub power : ℕ
   pub kept : Kept s number places
   pub counts : Counts e power
-  pub num-is : num ≡ number * cond (e .negative) 1 (2 ^ power)
-  pub den-is : den ≡ 16 ^ places * cond (e .negative) (2 ^ power) 1
+  pub num-is : num ≡ number * cond inverse 1 (2 ^ power)
+  pub den-is : den ≡ 16 ^ places * cond inverse (2 ^ power) 1
 
 -- r is the reply to a reading
 pub record Finishes (reading : Reading) (r : Reply) : Type 0 where
   pub malformed : isLast (reading .stage) ≡ false → r ≡ Refused 9
-  pub value : isLast (reading .stage) ≡ true → (num den : ℕ) → Holds (reading .significand) (reading .power) num den → r ≡ exactly (reading .negative) num den
+  pub value : isLast (reading .stage) ≡ true → (num den : ℕ) → Holds (reading .significand) (reading .power) (reading .inverse) num den → r ≡ exactly (reading .negative) num den
 
 -- ---- numbers with an exponent
 

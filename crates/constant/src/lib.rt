@@ -24,17 +24,17 @@ const BAD_TEXT: u8 = 9;
 // The value is not exactly a finite binary64.
 const INEXACT: u8 = 10;
 
-// A number's leading digits: it is value * 16^raised / 16^lowered, and a little more where a digit other than 0 is lost.
+// A number's leading digits: it is value * 16^raised / 16^lowered, and a little more where a digit other than 0 is lost, which is then kept
+// in lost. Here and in a Power there are words alone: a smaller field would have padding behind it, and each byte of a text would copy it.
 pub struct Significand {
     pub value: u64,
     pub raised: u64,
     pub lowered: u64,
-    pub lost: bool,
+    pub lost: u64,
 }
 
 // An exponent, as 4 * quotient + remainder: four times a place of a long text would not fit a word. A quotient beyond MOST stays there.
 pub struct Power {
-    pub negative: bool,
     pub quotient: u64,
     pub remainder: u64,
 }
@@ -42,6 +42,8 @@ pub struct Power {
 pub struct Reading {
     pub stage: Stage,
     pub negative: bool,
+    // Whether the power of two divides.
+    pub inverse: bool,
     pub significand: Significand,
     pub power: Power,
 }
@@ -80,7 +82,7 @@ fn with_digit(s: Significand, digit: u64, after: bool) -> Significand
             }
         }
     } else {
-        let lost = if lost { true } else { digit != 0 };
+        let lost = wide::pick_word(digit == 0, lost, digit);
         if after {
             Significand {
                 value,
@@ -103,18 +105,15 @@ fn with_decimal(e: Power, digit: u64) -> Power
     requires { ⌜ (digit ≤ 16) × (e .remainder ≤ 3) ⌝ }
     ensures { λ r. ⌜ r ≡ withDecimal e digit ⌝ }
 {
-    let negative = e.negative;
     let rest = e.remainder * 10 + digit;
     let remainder = rest % 4;
     if e.quotient < MOST_TENTH {
         Power {
-            negative,
             quotient: e.quotient * 10 + rest / 4,
             remainder,
         }
     } else {
         Power {
-            negative,
             quotient: MOST,
             remainder,
         }
@@ -128,14 +127,14 @@ pub fn fresh() -> Reading
     Reading {
         stage: Stage::Start,
         negative: false,
+        inverse: false,
         significand: Significand {
             value: 0,
             raised: 0,
             lowered: 0,
-            lost: false,
+            lost: 0,
         },
         power: Power {
-            negative: false,
             quotient: 0,
             remainder: 0,
         },
@@ -149,11 +148,13 @@ fn push(reading: Reading, b: u8) -> Reading
     let before = reading.stage;
     let stage = hexadecimal::next(before, b);
     let negative = reading.negative;
+    let inverse = reading.inverse;
     let significand = reading.significand;
     let power = reading.power;
     let moved = Reading {
         stage,
         negative,
+        inverse,
         significand,
         power,
     };
@@ -162,6 +163,7 @@ fn push(reading: Reading, b: u8) -> Reading
         Stage::Signed => Reading {
             stage,
             negative: b == b'-',
+            inverse,
             significand,
             power,
         },
@@ -170,6 +172,7 @@ fn push(reading: Reading, b: u8) -> Reading
         Stage::Whole => Reading {
             stage,
             negative,
+            inverse,
             significand: with_digit(significand, hexadecimal::digit(b), false),
             power,
         },
@@ -178,6 +181,7 @@ fn push(reading: Reading, b: u8) -> Reading
         Stage::Fraction => Reading {
             stage,
             negative,
+            inverse,
             significand: with_digit(significand, hexadecimal::digit(b), true),
             power,
         },
@@ -185,16 +189,14 @@ fn push(reading: Reading, b: u8) -> Reading
         Stage::ExponentSigned => Reading {
             stage,
             negative,
+            inverse: b == b'-',
             significand,
-            power: Power {
-                negative: b == b'-',
-                quotient: power.quotient,
-                remainder: power.remainder,
-            },
+            power,
         },
         Stage::Exponent => Reading {
             stage,
             negative,
+            inverse,
             significand,
             power: with_decimal(power, hexadecimal::digit(b)),
         },
@@ -268,22 +270,23 @@ fn placed(negative: bool, m: u64, t: u64, above: u64, below: u64) -> Reply
 }
 
 // The float whose sign and size are these. -(4 * q + r) is 4 * -(q + 1) + (4 - r).
-fn valued(negative: bool, significand: Significand, power: Power) -> Reply
+fn valued(negative: bool, inverse: bool, significand: Significand, power: Power) -> Reply
     requires { ⌜ (significand .raised + significand .lowered ≤ mostPlaces) × (significand .value ≤ 0x1000000000000000) × (power .remainder ≤ 3) ⌝ }
-    ensures { λ r. ⌜ ((num den : ℕ) → Holds significand power num den → r ≡ exactly negative num den) ⌝ }
+    ensures { λ r. ⌜ ((num den : ℕ) → Holds significand power inverse num den → r ≡ exactly negative num den) ⌝ }
 {
     let value = significand.value;
     let raised = significand.raised;
     let lowered = significand.lowered;
+    let lost = significand.lost;
     let quotient = power.quotient;
     let remainder = power.remainder;
     if value == 0 {
         return Reply::Bits(sign_bit(negative));
     }
-    if significand.lost {
+    if lost != 0 {
         return Reply::Refused(INEXACT);
     }
-    if power.negative {
+    if inverse {
         if raised + LOWEST < quotient {
             return Reply::Refused(INEXACT);
         }
@@ -310,7 +313,7 @@ pub fn finish(reading: Reading) -> Reply
     let significand = reading.significand;
     let power = reading.power;
     if hexadecimal::is_last(stage) {
-        valued(reading.negative, significand, power)
+        valued(reading.negative, reading.inverse, significand, power)
     } else {
         Reply::Refused(BAD_TEXT)
     }

@@ -1,8 +1,8 @@
 // Hexadecimal floats as text (document 02, A.1): the value of a digit, and the test of a text's form byte by byte. What the form is, and
 // what a text of it is worth, is defined in specs/Text.antt; specs/Form.antt states that the test decides the form.
 ghost use mathlib.Core.Path.{_≡_};
-ghost use mathlib.Core.Bool.{_||_, cond};
-ghost use lib.Dec.{eqb};
+ghost use mathlib.Core.Bool.{_&&_, _||_, cond};
+ghost use lib.Dec.{leb, ltb, eqb};
 ghost use Rattle.hexadecimal.specs.Text.{digitOf, isHexadecimal, isDecimal};
 ghost use Rattle.hexadecimal.specs.Test.{nextStage, isLast};
 
@@ -27,26 +27,21 @@ pub enum Stage {
     Malformed,
 }
 
-// The value of a digit, or 16.
+fn is_between(b: u8, low: u8, high: u8) -> bool
+    ensures { λ r. ⌜ r ≡ (leb low b && ltb b high) ⌝ }
+{
+    if low <= b { b < high } else { false }
+}
+
+// The value of a digit, or 16. All values are made and one is picked: which digits a text has is no branch.
 pub fn digit(b: u8) -> u64
     ensures { λ r. ⌜ r ≡ digitOf b ⌝ }
 {
-    if b < 48 {
-        return 16;
-    }
-    if b < 58 {
-        return (b - 48) as u64;
-    }
-    if b < 65 {
-        return 16;
-    }
-    if b < 71 {
-        return (b - 55) as u64;
-    }
-    if b < 97 {
-        return 16;
-    }
-    if b < 103 { (b - 87) as u64 } else { 16 }
+    let figure = (b % 16) as u64;
+    let letter = (b % 32 + 9) as u64;
+    let lower = wide::pick_word(is_between(b, 97, 103), letter, 16);
+    let upper = wide::pick_word(is_between(b, 65, 71), letter, lower);
+    wide::pick_word(is_between(b, 48, 58), figure, upper)
 }
 
 fn is_hexadecimal(b: u8) -> bool

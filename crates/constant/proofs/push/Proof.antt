@@ -14,10 +14,10 @@ use Rattle.constant.proofs.Kept.{digit-le}
 use Rattle.constant.proofs.push.Statement.{statement}
 use Rattle.constant.proofs.push.Tie as tie
 
-arm : (reading : Reading) (b : ℕ) {s known : Stage} {n : Bool} {g : Significand} {p : Power} → s ≡ nextStage (reading .stage) b → s ≡ known → movedTo known reading b ≡ record { stage = known; negative = n; significand = g; power = p } → record { stage = s; negative = n; significand = g; power = p } ≡ pushed reading b
+arm : (reading : Reading) (b : ℕ) {s known : Stage} {n i : Bool} {g : Significand} {p : Power} → s ≡ nextStage (reading .stage) b → s ≡ known → movedTo known reading b ≡ record { stage = known; negative = n; inverse = i; significand = g; power = p } → record { stage = s; negative = n; inverse = i; significand = g; power = p } ≡ pushed reading b
 unfolding pushed
-arm reading b {n} {g} {p} e k h =
-    ap (λ (t : Stage). record { stage = t; negative = n; significand = g; power = p }) k
+arm reading b {n} {i} {g} {p} e k h =
+    ap (λ (t : Stage). record { stage = t; negative = n; inverse = i; significand = g; power = p }) k
     ∙ sym h
     ∙ ap (λ (t : Stage). movedTo t reading b) (sym k ∙ e)
 

@@ -11,11 +11,11 @@ mul-rest c = search needs
 add-rest : tie.Need-add-rest
 add-rest c = search needs
 
-mul-t9 : tie.Need-mul-t9
-mul-t9 c = search needs
+mul-t8 : tie.Need-mul-t8
+mul-t8 c = search needs
 
-add-t11 : tie.Need-add-t11
-add-t11 c = search needs
+add-t10 : tie.Need-add-t10
+add-t10 c = search needs
 
 returns : tie.Need-returns
 unfolding withDecimal
@@ -26,4 +26,4 @@ unfolding withDecimal
 returns-2 c = rw (le-ltb _ _ (c .if1 .left))
 
 pub with-decimal-spec : {M : Type 1} → statement M
-with-decimal-spec = tie.close (tie.spec mul-rest add-rest mul-t9 add-t11 returns returns-2)
+with-decimal-spec = tie.close (tie.spec mul-rest add-rest mul-t8 add-t10 returns returns-2)
