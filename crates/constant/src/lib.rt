@@ -60,43 +60,19 @@ fn with_digit(s: Significand, digit: u64, after: bool) -> Significand
     requires { ⌜ (digit ≤ 16) × (s .raised + s .lowered < mostPlaces) ⌝ }
     ensures { λ r. ⌜ r ≡ withDigit s digit after ⌝ }
 {
-    let value = s.value;
-    let raised = s.raised;
-    let lowered = s.lowered;
-    let lost = s.lost;
-    if value < ROOM {
-        let value = value * 16 + digit;
-        if after {
-            Significand {
-                value,
-                raised,
-                lowered: lowered + 1,
-                lost,
-            }
-        } else {
-            Significand {
-                value,
-                raised,
-                lowered,
-                lost,
-            }
+    if s.value < ROOM {
+        Significand {
+            value: s.value * 16 + digit,
+            raised: s.raised,
+            lowered: wide::pick_word(after, s.lowered + 1, s.lowered),
+            lost: s.lost,
         }
     } else {
-        let lost = wide::pick_word(digit == 0, lost, digit);
-        if after {
-            Significand {
-                value,
-                raised,
-                lowered,
-                lost,
-            }
-        } else {
-            Significand {
-                value,
-                raised: raised + 1,
-                lowered,
-                lost,
-            }
+        Significand {
+            value: s.value,
+            raised: wide::pick_word(after, s.raised, s.raised + 1),
+            lowered: s.lowered,
+            lost: wide::pick_word(digit == 0, s.lost, digit),
         }
     }
 }

@@ -31,18 +31,18 @@ without-form = refl
 
 -- ---- one text
 
--- -5.25
+-- -80.25
 abbrev text : List ℕ
-text = bytes "-0xA.8p-1"
+text = bytes "-0xA0.8p-1"
 
 abbrev parts : Parts
-parts = record { sign = bytes "-"; zero = bytes "0"; x = bytes "x"; whole = bytes "A"; point = bytes "."; fraction = bytes "8"; p = bytes "p"; exponentSign = bytes "-"; exponent = bytes "1" }
+parts = record { sign = bytes "-"; zero = bytes "0"; x = bytes "x"; whole = bytes "A0"; point = bytes "."; fraction = bytes "8"; p = bytes "p"; exponentSign = bytes "-"; exponent = bytes "1" }
 
 pub its-parts : partsOf text ≡ parts
 unfolding partsOf digitOf
 its-parts = refl
 
-pub its-value : (negative parts ≡ true) × (num parts ≡ 168) × (den parts ≡ 32)
+pub its-value : (negative parts ≡ true) × (num parts ≡ 2568) × (den parts ≡ 32)
 unfolding numberFrom digitOf
 its-value = (refl, refl, refl)
 
