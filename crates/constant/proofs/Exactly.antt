@@ -13,7 +13,7 @@ use Rattle.rounding.specs.Machine.{signBit}
 use Rattle.exactness.proofs.Precision.{dropped, dropped-lt, dropped-le, dropped-full, dropped-ge}
 use Rattle.constant.specs.declared.Reply.{Reply}
 use Rattle.constant.specs.declared.Reply.the-variants.{Refused, Bits}
-use Rattle.constant.specs.Constant.{exactly}
+use Rattle.constant.specs.Constant.{replyWith, exactly}
 
 -- num / den is q * 2 ^ k units of 2 ^ -1074, and a finite binary64
 pub record Finite (num den q k : ℕ) : Type 0 where
@@ -22,12 +22,9 @@ pub record Finite (num den q k : ℕ) : Type 0 where
   pub most : k ≤ 2045
   pub is : num * 2 ^ 1074 ≡ q * 2 ^ k * den
 
--- the same reply, by the digits that are dropped
-reply : Bool → ℕ → ℕ → ℕ → ℕ → Reply
-reply s n den k q = cond (eqb (q * 2 ^ k * den) n && leb k 2045) (Bits (signBit s + (k * 0x10000000000000 + q))) (Refused 10)
-
-exactly-is : (s : Bool) (num den : ℕ) → exactly s num den ≡ reply s (num * 2 ^ 1074) den (dropped 53 (num * 2 ^ 1074 / den)) (num * 2 ^ 1074 / den / 2 ^ dropped 53 (num * 2 ^ 1074 / den))
-unfolding exactly reply
+-- by the digits that are dropped
+exactly-is : (s : Bool) (num den : ℕ) → exactly s num den ≡ replyWith s (num * 2 ^ 1074) den (dropped 53 (num * 2 ^ 1074 / den)) (num * 2 ^ 1074 / den / 2 ^ dropped 53 (num * 2 ^ 1074 / den))
+unfolding exactly
 exactly-is s num den = refl
 
 digits : (q k : ℕ) → q < 2 ^ 53 → (k ≡ 0) ⊎ (2 ^ 52 ≤ q) → dropped 53 (q * 2 ^ k) ≡ k
@@ -42,8 +39,8 @@ digits q k h kept = le-antisymm (dropped-le 53 (q * 2 ^ k) k (shl-lt 53 k h)) (�
     full : 2 ^ 52 ≤ q → k ≤ dropped 53 (q * 2 ^ k)
     full l = dropped-ge 53 (q * 2 ^ k) k (omega arith) (le-trans (le-of-eq (ap (λ (x : ℕ). 2 ^ x) (less k) ∙ pow-add 2 52 k)) (mul-le-mul-right (2 ^ k) l))
 
-tried : (s : Bool) (n den k q : ℕ) → ((q * 2 ^ k * den ≡ n) × (k ≤ 2045) × (reply s n den k q ≡ Bits (signBit s + (k * 0x10000000000000 + q)))) ⊎ (reply s n den k q ≡ Refused 10)
-unfolding reply
+tried : (s : Bool) (n den k q : ℕ) → ((q * 2 ^ k * den ≡ n) × (k ≤ 2045) × (replyWith s n den k q ≡ Bits (signBit s + (k * 0x10000000000000 + q)))) ⊎ (replyWith s n den k q ≡ Refused 10)
+unfolding replyWith
 tried s n den k q = go (eqb (q * 2 ^ k * den) n) (leb k 2045) refl refl
   where
     go : (a b : Bool) → eqb (q * 2 ^ k * den) n ≡ a → leb k 2045 ≡ b → let r = cond (a && b) (Bits (signBit s + (k * 0x10000000000000 + q))) (Refused 10) in ((q * 2 ^ k * den ≡ n) × (k ≤ 2045) × (r ≡ Bits (signBit s + (k * 0x10000000000000 + q)))) ⊎ (r ≡ Refused 10)
@@ -53,14 +50,14 @@ tried s n den k q = go (eqb (q * 2 ^ k * den) n) (leb k 2045) refl refl
     go false false e l = inr refl
 
 pub exactly-bits : (s : Bool) (num den q k : ℕ) → 0 < den → Finite num den q k → exactly s num den ≡ Bits (signBit s + (k * 0x10000000000000 + q))
-unfolding reply
+unfolding replyWith
 exactly-bits s num den q k D f =
     let n = num * 2 ^ 1074 in
     let e : n / den ≡ q * 2 ^ k = div-eq-of-eq-mul-left D (f .is) in
     exactly-is s num den
-    ∙ ap (λ (x : ℕ). reply s n den (dropped 53 x) (x / 2 ^ dropped 53 x)) e
-    ∙ ap (λ (x : ℕ). reply s n den x (q * 2 ^ k / 2 ^ x)) (digits q k (f .small) (f .kept))
-    ∙ ap (reply s n den k) (shl-shr q k)
+    ∙ ap (λ (x : ℕ). replyWith s n den (dropped 53 x) (x / 2 ^ dropped 53 x)) e
+    ∙ ap (λ (x : ℕ). replyWith s n den x (q * 2 ^ k / 2 ^ x)) (digits q k (f .small) (f .kept))
+    ∙ ap (replyWith s n den k) (shl-shr q k)
     ∙ ap (λ (t : Bool). cond (t && leb k 2045) (Bits (signBit s + (k * 0x10000000000000 + q))) (Refused 10)) (eq-eqb (q * 2 ^ k * den) n (sym (f .is)))
     ∙ ap (λ (t : Bool). cond t (Bits (signBit s + (k * 0x10000000000000 + q))) (Refused 10)) (le-leb k 2045 (f .most))
 
@@ -91,10 +88,10 @@ outcome s num den D = ⊎-elim found lacking (tried s (num * 2 ^ 1074) den k q)
     q : ℕ
     q = num * 2 ^ 1074 / den / 2 ^ k
 
-    found : (q * 2 ^ k * den ≡ num * 2 ^ 1074) × (k ≤ 2045) × (reply s (num * 2 ^ 1074) den k q ≡ Bits (signBit s + (k * 0x10000000000000 + q))) → Outcome s num den
+    found : (q * 2 ^ k * den ≡ num * 2 ^ 1074) × (k ≤ 2045) × (replyWith s (num * 2 ^ 1074) den k q ≡ Bits (signBit s + (k * 0x10000000000000 + q))) → Outcome s num den
     found h = float q k (record { small = shr-lt 53 k (dropped-lt 53 (num * 2 ^ 1074 / den)); kept = kept (num * 2 ^ 1074 / den); most = h .1; is = sym (h .0) }) (exactly-is s num den ∙ h .2)
 
-    lacking : reply s (num * 2 ^ 1074) den k q ≡ Refused 10 → Outcome s num den
+    lacking : replyWith s (num * 2 ^ 1074) den k q ≡ Refused 10 → Outcome s num den
     lacking h = none (λ j i f. differ (sym (exactly-bits s num den j i D f) ∙ exactly-is s num den ∙ h)) (exactly-is s num den ∙ h)
       where
         differ : {b : ℕ} → Bits b ≡ Refused 10 → ⊥

@@ -16,15 +16,19 @@ use Rattle.constant.specs.declared.Reply.the-variants.{Refused, Bits}
 
 -- ---- the reply, computed
 
--- ±num / den, for a den above 0. A finite binary64 is q * 2 ^ k times 2 ^ -1074, where q has at most 53 digits and k is at most 2045, and
--- its pattern is the sign and k * 2 ^ 52 + q. The divisions only find q and k: nothing is rounded, since q * 2 ^ k has to be the size itself.
+-- The reply with q * 2 ^ k times 2 ^ -1074, where q has 53 digits at most: its pattern is the sign and k * 2 ^ 52 + q, if it is finite, which it
+-- is up to k = 2045, and if it is the number itself, n / den times 2 ^ -1074.
+unfoldable pub replyWith : Bool → ℕ → ℕ → ℕ → ℕ → Reply
+replyWith s n den k q = cond (eqb (q * 2 ^ k * den) n && leb k 2045) (Bits (signBit s + (k * 0x10000000000000 + q))) (Refused 10)
+
+-- ±num / den, for a den above 0. The divisions only find the leading 53 digits, q, and how many follow, k: nothing is rounded, since replyWith
+-- asks that q * 2 ^ k is the size itself.
 unfoldable pub exactly : Bool → ℕ → ℕ → Reply
-unfolding size
+unfolding size replyWith
 exactly s num den =
     let n = num * 2 ^ 1074 in
     let k = size (n / den) - 53 in
-    let q = n / den / 2 ^ k in
-    cond (eqb (q * 2 ^ k * den) n && leb k 2045) (Bits (signBit s + (k * 0x10000000000000 + q))) (Refused 10)
+    replyWith s n den k (n / den / 2 ^ k)
 
 abbrev pub valueOf : Parts → Reply
 valueOf parts = exactly (negative parts) (num parts) (den parts)

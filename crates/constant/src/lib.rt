@@ -226,7 +226,7 @@ fn exact_bits(negative: bool, m: u64, e: u64) -> Reply
     whole_bits(negative, w, 0, s)
 }
 
-// So many places above or below the point, and no value of 60 bits is small or large enough.
+// With more places than these, no value of 60 bits is a finite float.
 const LOWEST: u64 = 284;
 
 const HIGHEST: u64 = 256;
