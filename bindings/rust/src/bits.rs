@@ -64,8 +64,8 @@ pub fn constant(text: &[u8]) -> Result<u64, Refusal> {
     let mut result = 0;
     // SAFETY: pointer and length are those of a slice, and the result is apart from it.
     let number = unsafe { ffi::weigher_constant(text.as_ptr(), text.len(), &mut result) };
-    match Refusal::from_number(number) {
-        Some(refusal) => Err(refusal),
-        None => Ok(result),
+    match number {
+        0 => Ok(result),
+        _ => Err(Refusal::from_number(number).expect("a refusal's number")),
     }
 }
