@@ -5,7 +5,6 @@
 // on standard error.
 use constant::Reading;
 use constant::Reply;
-ghost use mathlib.Core.Path.{_≡_};
 ghost use Prim.Native.Nat.{ℕ, _+_, _-_, _≤_};
 ghost use lib.ListN.{length};
 ghost use Rattle.constant.specs.Machine.{Within, mostPlaces};
@@ -34,26 +33,16 @@ fn write_pattern(bits: u64) -> bool {
 
 // A refusal's number has two digits at most.
 fn write_refusal(number: u8) -> bool {
-    let tens = glyph((number / 10 % 10) as u64);
+    let mut line = *b"refused 00\n";
     let units = glyph((number % 10) as u64);
     if number < 10 {
-        return stdio::write_out(&[b'r', b'e', b'f', b'u', b's', b'e', b'd', b' ', units, b'\n']);
+        line[8] = units;
+        line[9] = b'\n';
+        return stdio::write_out(&line[..10]);
     }
-    stdio::write_out(
-        &[
-            b'r',
-            b'e',
-            b'f',
-            b'u',
-            b's',
-            b'e',
-            b'd',
-            b' ',
-            tens,
-            units,
-            b'\n',
-        ],
-    )
+    line[8] = glyph((number / 10 % 10) as u64);
+    line[9] = units;
+    stdio::write_out(&line)
 }
 
 // Writes a line; false where the output takes no more.
