@@ -8,7 +8,7 @@ const BAD: Reply = Err(BAD_TEXT);
 const NONE: Reply = Err(INEXACT);
 
 /// Texts with their replies.
-pub const KNOWN: [(&str, Reply); 101] = [
+pub const KNOWN: [(&str, Reply); 102] = [
     ("0x1.p0", Ok(0x3ff0000000000000)),
     ("0x.8p0", Ok(0x3fe0000000000000)),
     ("+0x00.00P-0", Ok(0)),
@@ -77,6 +77,8 @@ pub const KNOWN: [(&str, Reply); 101] = [
     ("0x1.fffffffffffff7p1023", NONE),
     ("0x1.ffffffffffffffp1023", NONE),
     ("0x1p1024", NONE),
+    // An exponent whose quarter is beyond 64 bits by a few: taken modulo 2^64 it would be that of 2^15.
+    ("0x1p73786976294838206479", NONE),
     ("0x2p1023", NONE),
     ("0x.8p1024", Ok(0x7fe0000000000000)),
     ("0x.8p1025", NONE),

@@ -20,6 +20,15 @@ bytes (c ∷ s) = code c ∷ᴸ bytes s
 abbrev tests : List String → List Bool
 tests = map (λ s. hasForm (bytes s))
 
+-- every digit, and the bytes on either side of each row of them
+pub digits : map digitOf (bytes "0123456789ABCDEFabcdef") ≡ 0 ∷ᴸ 1 ∷ᴸ 2 ∷ᴸ 3 ∷ᴸ 4 ∷ᴸ 5 ∷ᴸ 6 ∷ᴸ 7 ∷ᴸ 8 ∷ᴸ 9 ∷ᴸ 10 ∷ᴸ 11 ∷ᴸ 12 ∷ᴸ 13 ∷ᴸ 14 ∷ᴸ 15 ∷ᴸ 10 ∷ᴸ 11 ∷ᴸ 12 ∷ᴸ 13 ∷ᴸ 14 ∷ᴸ 15 ∷ᴸ []ᴸ
+unfolding digitOf
+digits = refl
+
+pub no-digits : map digitOf (bytes "/:@G`g") ≡ replicate 6 16
+unfolding digitOf
+no-digits = refl
+
 pub with-form : tests ("0x1.p0" ∷ᴸ "0x.8p0" ∷ᴸ "+0x00.00P-0" ∷ᴸ "0X1P0" ∷ᴸ "-0xAbC.dEfp+007" ∷ᴸ "0x10000000000000000000000000p-100" ∷ᴸ []ᴸ) ≡ replicate 6 true
 unfolding hasForm
 with-form = refl
