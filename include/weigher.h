@@ -137,8 +137,8 @@ enum {
     WEIGHER_SCREENED_REFUSED = 0, /* the refusal's number, 5: the payload is
                                      empty, or no whole weights */
     WEIGHER_SCREENED_CLEAN = 1,   /* 0: no weight is a NaN */
-    WEIGHER_SCREENED_MISSING = 2  /* the place of a weight that is a NaN,
-                                     counted in weights from 0 */
+    WEIGHER_SCREENED_MISSING = 2  /* the place of the first weight that is a
+                                     NaN, counted in weights from 0 */
 };
 
 typedef struct weigher_screened {
@@ -146,8 +146,7 @@ typedef struct weigher_screened {
     size_t number;
 } weigher_screened;
 
-/* Looks through a payload of kind 1 for a weight that is a NaN. Where there are
- * several, the place may be that of any. */
+/* Looks through a payload of kind 1 for the first weight that is a NaN. */
 weigher_screened weigher_screening(const uint8_t *payload, size_t payload_len);
 
 /* ---- The numeric functions */

@@ -1,4 +1,5 @@
-//! Times the weigher's operations beside the machine's, musl's and the Rust exp2m1, and its reader of constants beside C's.
+//! Times the weigher's operations beside the machine's, musl's and the Rust exp2m1, its reader of constants beside C's, and screening beside a
+//! plain loop.
 //!
 //! Each is called through a function pointer that the compiler does not see through, on the same operands, in turn.
 
@@ -8,6 +9,8 @@ use std::time::Instant;
 
 use crate::random::Random;
 use crate::rust;
+use crate::screen;
+use crate::service::FLOAT;
 use crate::values::{linear, uniform};
 
 /// So many that no branch predictor learns them: with 4,096 of them musl's branches were foreseen in part, and it took 17 ns and not 21.
@@ -17,7 +20,10 @@ const ROUNDS: usize = 300;
 /// Weights whose calls of fma are timed.
 const WEIGHTS: usize = 4096;
 
-/// Rounds of the score and of constants, each call of which takes longer.
+/// Weights of a long payload that is screened: 64 MB.
+const SCREENED: usize = 8 << 20;
+
+/// Rounds of the score, of constants and of screening, each of which takes longer.
 const FEW_ROUNDS: usize = 60;
 
 type Three = (u64, u64, u64);
@@ -47,6 +53,7 @@ pub fn run() {
     time("scale, n from -100 to 100", &operands, &scale_ways());
     score(random);
     constants(random);
+    screening(random);
 }
 
 /// fma as the score calls it, on the operands of the Rust exp2m1's own calls.
@@ -91,6 +98,26 @@ fn constants(random: &mut Random) {
     });
     let title = "constant, texts of about 22 bytes";
     time_rounds(FEW_ROUNDS, title, &operands, &ways);
+}
+
+/// A payload without a NaN, which is read to its end.
+fn screening(random: &mut Random) {
+    let weigher = black_box(ffi::screening as fn(&[u8]) -> ffi::Screened);
+    let plain = black_box(screen::screening as fn(&[u8]) -> screen::Reply);
+    let ways: [Way<[u8; FLOAT]>; 2] = [
+        (
+            "weigher",
+            Box::new(move |weights| weigher(weights.as_flattened()).number as u64),
+        ),
+        (
+            "plain loop",
+            Box::new(move |weights| plain(weights.as_flattened()).1 as u64),
+        ),
+    ];
+    let weight = || linear(random, -50.0, 50.0).to_be_bytes();
+    let weights: Vec<_> = std::iter::repeat_with(weight).take(SCREENED).collect();
+    let title = "screening, a weight of 64 MB without a NaN";
+    time_rounds(FEW_ROUNDS, title, &weights, &ways);
 }
 
 fn prepare<T>(operand: impl FnMut() -> T) -> Vec<T> {

@@ -18,6 +18,7 @@ mod recorded;
 mod run;
 mod rust;
 mod score;
+mod screen;
 mod screenings;
 mod serve;
 mod service;

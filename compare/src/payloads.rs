@@ -5,6 +5,7 @@ use std::ptr;
 use crate::calls::hexadecimal;
 use crate::random::Random;
 use crate::score;
+use crate::screen;
 use crate::service::{self, FLOAT};
 use crate::tally::{Mismatches, Tally};
 
@@ -29,7 +30,7 @@ pub fn compare(thousands: u64) -> bool {
     let mut bodies = Tally::new("payload, by the body", "under 2 bytes|2 bytes|longer");
     let mut payloads = Tally::new(
         "screening",
-        "5, empty|5, no multiple of 8|none|the only NaN|one NaN of several",
+        "5, empty|5, no multiple of 8|none|the only NaN, first|the only NaN, last|the only NaN, between|the first of several|every weight",
     );
     for _ in 0..thousands * 1000 {
         compare_payload(&any_body(&mut random), &mut bodies, &mut mismatches);
@@ -63,15 +64,17 @@ fn compare_payload(body: &[u8], tally: &mut Tally, mismatches: &mut Mismatches) 
     }
 }
 
-/// Weights, with NaNs nowhere, first, last, at some place or at many. Some payloads are cut off, and some empty.
+/// Weights, with NaNs nowhere, first, last, at both of these, at some place, at many or everywhere. Some payloads are cut off, and some empty.
 fn any_payload(random: &mut Random) -> Vec<u8> {
     let count = random.between(1, (LONGEST / FLOAT) as i64) as usize;
     let mut weights: Vec<u64> = (0..count).map(|_| number(random)).collect();
-    let places = match random.below(6) {
+    let places = match random.below(8) {
         0 => vec![0],
         1 => vec![count - 1],
-        2 => vec![random.below(count as u64) as usize],
-        3 => (0..count).filter(|_| random.below(4) == 0).collect(),
+        2 => vec![0, count - 1],
+        3 => vec![random.below(count as u64) as usize],
+        4 => (0..count).filter(|_| random.below(4) == 0).collect(),
+        5 => (0..count).collect(),
         _ => vec![],
     };
     for place in places {
@@ -103,35 +106,37 @@ fn nan(random: &mut Random) -> u64 {
     }
 }
 
-/// Among several NaNs the place is free.
 fn compare_screening(payload: &[u8], tally: &mut Tally, mismatches: &mut Mismatches) {
-    let got = ffi::screening(payload);
-    let reply = (got.tag, got.number);
-    let (outcome, right) = if payload.is_empty() {
-        ("5, empty", reply == (0, 5))
-    } else if !payload.len().is_multiple_of(FLOAT) {
-        ("5, no multiple of 8", reply == (0, 5))
-    } else {
-        let weights = service::patterns(payload);
-        let is_nan = |place: &usize| f64::from_bits(weights[*place]).is_nan();
-        let nans: Vec<usize> = (0..weights.len()).filter(is_nan).collect();
-        match nans[..] {
-            [] => ("none", reply == (1, 0)),
-            [place] => ("the only NaN", reply == (2, place)),
-            _ => (
-                "one NaN of several",
-                got.tag == 2 && nans.contains(&got.number),
-            ),
-        }
-    };
+    let outcome = outcome_of(payload);
     tally.count(outcome);
-    if !right {
+    let want = screen::screening(payload);
+    let screened = ffi::screening(payload);
+    let got = (screened.tag, screened.number);
+    if got != want {
         mismatches.report(format!(
-            "screening: {outcome}: tag {}, number {}, for a payload of {} bytes: {}",
-            got.tag,
-            got.number,
+            "screening: {outcome}: {got:?} and not {want:?}, for a payload of {} bytes: {}",
             payload.len(),
             hexadecimal(payload)
         ));
+    }
+}
+
+fn outcome_of(payload: &[u8]) -> &'static str {
+    if payload.is_empty() {
+        return "5, empty";
+    }
+    if !payload.len().is_multiple_of(FLOAT) {
+        return "5, no multiple of 8";
+    }
+    let weights = service::patterns(payload);
+    let is_nan = |place: &usize| f64::from_bits(weights[*place]).is_nan();
+    let nans: Vec<usize> = (0..weights.len()).filter(is_nan).collect();
+    match nans[..] {
+        [] => "none",
+        [0] => "the only NaN, first",
+        [place] if place + 1 == weights.len() => "the only NaN, last",
+        [_] => "the only NaN, between",
+        _ if nans.len() == weights.len() => "every weight",
+        _ => "the first of several",
     }
 }

@@ -1,8 +1,9 @@
-//! Writes the vectors of crates/screening_vectors, with document 01's replies.
+//! Writes the vectors of crates/screening_vectors, with the replies of the plain loop.
 
 use std::io::{self, BufWriter, Write};
 
 use crate::random::Random;
+use crate::screen;
 use crate::values::{SIGN, SPECIALS};
 
 /// The ends of the patterns of NaNs, the last finite numbers and the infinities, and a NaN with its bytes turned round.
@@ -28,18 +29,28 @@ pub fn write() -> io::Result<()> {
         payloads.push(bytes_of(&[edge | SIGN]));
     }
     for place in 0..MOST_WEIGHTS {
-        let mut weights = [0x3ff0000000000000; MOST_WEIGHTS];
-        weights[place] = 0x7ff0000000000001;
-        payloads.push(bytes_of(&weights));
+        payloads.push(bytes_of(&with_nans(&[place])));
+        payloads.push(bytes_of(&with_nans(&[place, MOST_WEIGHTS - 1])));
     }
+    payloads.push(bytes_of(&with_nans(&[])));
+    payloads.push(bytes_of(&with_nans(&Vec::from_iter(0..MOST_WEIGHTS))));
     payloads.extend((0..RANDOM).map(|_| any(&mut random)));
     let mut out = BufWriter::new(io::stdout().lock());
     for payload in &payloads {
         let digits: String = payload.iter().map(|byte| format!("{byte:02x}")).collect();
-        let (refusal, places) = reply(payload);
-        writeln!(out, "{digits} {refusal:x} {places:x}")?;
+        let (tag, number) = screen::screening(payload);
+        writeln!(out, "{digits} {tag:x} {number:x}")?;
     }
     out.flush()
+}
+
+/// Ones, with NaNs at some places.
+fn with_nans(places: &[usize]) -> [u64; MOST_WEIGHTS] {
+    let mut weights = [0x3ff0000000000000; MOST_WEIGHTS];
+    for &place in places {
+        weights[place] = 0x7ff0000000000001;
+    }
+    weights
 }
 
 fn bytes_of(weights: &[u64]) -> Vec<u8> {
@@ -65,19 +76,4 @@ fn any(random: &mut Random) -> Vec<u8> {
         payload.truncate(payload.len() - 1 - random.below(7) as usize);
     }
     payload
-}
-
-/// Refusal 5 where the payload is empty or no multiple of 8; or else 0, and a bit for each weight that is a NaN, the lowest for the first.
-fn reply(payload: &[u8]) -> (u8, u64) {
-    if payload.is_empty() || payload.len() % 8 != 0 {
-        return (5, 0);
-    }
-    let mut places = 0;
-    for (place, weight) in payload.chunks_exact(8).enumerate() {
-        let weight = f64::from_be_bytes(weight.try_into().unwrap());
-        if weight.is_nan() {
-            places |= 1 << place;
-        }
-    }
-    (0, places)
 }

@@ -176,12 +176,28 @@ static void check_screened(const uint8_t *payload, size_t n, unsigned tag, size_
     CHECK(screened.tag == tag && screened.number == number);
 }
 
-/* 64 weights, of which one is a NaN, at each place. */
+/* The place of the first NaN among so many weights, or their number. */
+static size_t first_nan(const uint8_t *payload, size_t weights)
+{
+    for (size_t place = 0; place < weights; place++) {
+        uint64_t bits = 0;
+        for (size_t i = 0; i < 8; i++)
+            bits = bits << 8 | payload[8 * place + i];
+        double weight;
+        memcpy(&weight, &bits, sizeof weight);
+        if (weight != weight)
+            return place;
+    }
+    return weights;
+}
+
+/* 64 weights: no NaN, one at each place, from there on to the end, and so at last everywhere. */
 static void check_screening(void)
 {
     const size_t weights = 64;
     uint8_t *payload = before_end(8 * weights);
     memset(payload, 0, 8 * weights);
+    CHECK(first_nan(payload, weights) == weights);
     check_screened(payload, 8 * weights, WEIGHER_SCREENED_CLEAN, 0);
     for (size_t n = 8 * weights - 7; n < 8 * weights; n++)
         check_screened(payload, n, WEIGHER_SCREENED_REFUSED, WEIGHER_BAD_PAYLOAD);
@@ -189,10 +205,18 @@ static void check_screening(void)
         uint8_t *weight = payload + 8 * place;
         weight[0] = 0xff;
         weight[1] = 0xf0;
+        CHECK(first_nan(payload, weights) == weights);
         check_screened(payload, 8 * weights, WEIGHER_SCREENED_CLEAN, 0); /* -infinity */
         weight[7] = 0x01;
+        CHECK(first_nan(payload, weights) == place);
         check_screened(payload, 8 * weights, WEIGHER_SCREENED_MISSING, place);
         memset(weight, 0, 8);
+    }
+    for (size_t place = weights; place-- > 0;) {
+        payload[8 * place] = 0x7f;
+        payload[8 * place + 1] = 0xf8;
+        CHECK(first_nan(payload, weights) == place);
+        check_screened(payload, 8 * weights, WEIGHER_SCREENED_MISSING, place);
     }
 }
 

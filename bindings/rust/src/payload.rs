@@ -19,15 +19,15 @@ pub enum Screening {
     Refused(Refusal),
     /// No weight is a NaN.
     Clean,
-    /// The place of a weight that is a NaN, counted in weights from 0.
+    /// The place of the first weight that is a NaN, counted in weights from 0.
     Missing(usize),
 }
 
-/// Looks through a payload of kind 1 for a weight that is a NaN, before it is sent. Where there are several, the place may be that of any.
+/// Looks through a payload of kind 1 for the first weight that is a NaN, before it is sent.
 ///
 /// ```
 /// use weigher::{Refusal, Screening, screening};
-/// let payload: Vec<u8> = [1.0, f64::NAN].into_iter().flat_map(f64::to_be_bytes).collect();
+/// let payload: Vec<u8> = [1.0, f64::NAN, f64::NAN].into_iter().flat_map(f64::to_be_bytes).collect();
 /// assert_eq!(screening(&payload), Screening::Missing(1));
 /// assert_eq!(screening(&payload[..8]), Screening::Clean);
 /// assert_eq!(screening(&payload[..9]), Screening::Refused(Refusal::BadPayload));

@@ -241,20 +241,48 @@ fn the_place_of_a_payload() {
     }
 }
 
+/// The reply to so many weights, by a plain loop.
+fn first_missing(weights: &[f64]) -> Screening {
+    for (place, weight) in weights.iter().enumerate() {
+        if weight.is_nan() {
+            return Screening::Missing(place);
+        }
+    }
+    Screening::Clean
+}
+
+fn check_screening(weights: &[f64], expected: Screening) {
+    assert_eq!(first_missing(weights), expected);
+    assert_eq!(screening(&frame(1, weights)[4..]), expected);
+}
+
 #[test]
 fn screening_finds_each_place() {
     let mut weights = [0.5; 64];
+    check_screening(&weights, Screening::Clean);
     for place in 0..weights.len() {
         weights[place] = f64::INFINITY;
-        assert_eq!(screening(&frame(1, &weights)[4..]), Screening::Clean);
+        check_screening(&weights, Screening::Clean);
         for nan in [0x7ff0000000000001, 0xffffffffffffffff] {
             weights[place] = f64::from_bits(nan);
-            assert_eq!(
-                screening(&frame(1, &weights)[4..]),
-                Screening::Missing(place)
-            );
+            check_screening(&weights, Screening::Missing(place));
         }
         weights[place] = 0.5;
+    }
+}
+
+#[test]
+fn screening_finds_the_first_of_several() {
+    let mut weights = [0.5; 64];
+    weights[63] = f64::NAN;
+    for place in 0..63 {
+        weights[place] = -f64::NAN;
+        check_screening(&weights, Screening::Missing(place));
+        weights[place] = 0.5;
+    }
+    for place in (0..63).rev() {
+        weights[place] = f64::NAN;
+        check_screening(&weights, Screening::Missing(place));
     }
 }
 

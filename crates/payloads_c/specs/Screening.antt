@@ -1,8 +1,4 @@
 -- A reply of screening as a tag and a number. Definitions only.
-use Prim.Native.Nat.{ℕ}
-use mathlib.Core.Path.{_≡_}
-use mathlib.Core.List.{List}
-use Rattle.screening.specs.Screening.{Screens}
 use Rattle.screening.specs.declared.Screened.{Screened}
 use Rattle.screening.specs.declared.Screened.the-variants.{Refused, Clean, Missing}
 use Rattle.payloads_c.specs.declared.Screening.{Screening}
@@ -12,9 +8,3 @@ abbrev pub encoded : Screened → Screening
 encoded (Refused n) = record { tag = 0; number = n }
 encoded Clean = record { tag = 1; number = 0 }
 encoded (Missing i) = record { tag = 2; number = i }
-
--- r stands for a reply that screening may give
-pub record Tells (payload : List ℕ) (r : Screening) : Type 0 where
-  pub reply : Screened
-  pub screens : Screens payload reply
-  pub stands : r ≡ encoded reply

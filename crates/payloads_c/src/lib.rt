@@ -3,7 +3,8 @@
 // (specs/Screening.antt).
 ghost use mathlib.Core.Path.{_≡_};
 ghost use Rattle.frames.specs.Part.{payloadFrom};
-ghost use Rattle.payloads_c.specs.Screening.{Tells};
+ghost use Rattle.screening.specs.Screening.{screened};
+ghost use Rattle.payloads_c.specs.Screening.{encoded};
 use screening::Screened;
 
 // What a Screening's tag says of its number.
@@ -29,10 +30,10 @@ pub extern "C" fn weigher_payload(body: &[u8]) -> usize
     body.len() - payload.len()
 }
 
-// Looks through a kind 1 payload for a weight that is a NaN.
+// Looks through a kind 1 payload for the first weight that is a NaN.
 #[no_mangle]
 pub extern "C" fn weigher_screening(payload: &[u8]) -> Screening
-    ensures { λ r. ⌜ Tells (now (payload .entry)) r ⌝ }
+    ensures { λ r. ⌜ r ≡ encoded (screened (now (payload .entry))) ⌝ }
 {
     let screened = screening::screening(payload);
     match screened {

@@ -7,7 +7,7 @@ use native.Mathlib.Omega.{arith}
 use lib.ListN.{replicate}
 use lib.Dec.{lit<}
 use Rattle.words.specs.Bytes.{numberAt}
-use Rattle.screening.specs.Screening.{isNan, weightAt, Screens}
+use Rattle.screening.specs.Screening.{screened, NoneBefore, Screens}
 use Rattle.screening.specs.declared.Screened.{Screened}
 use Rattle.screening.specs.declared.Screened.the-variants.{Refused, Clean, Missing}
 
@@ -45,49 +45,52 @@ reversedNan = 1 ∷ 0 ∷ 0 ∷ 0 ∷ 0 ∷ 0 ∷ 0xf0 ∷ 0x7f ∷ []
 abbrev numbers : List ℕ
 numbers = minusOne ++ infinity ++ minusInfinity ++ reversedNan
 
-numbers-clean : (i : ℕ) → i < 4 → isNan (weightAt numbers i) ≡ false
-unfolding numberAt
-numbers-clean zero h = refl
-numbers-clean (suc zero) h = refl
-numbers-clean (suc (suc zero)) h = refl
-numbers-clean (suc (suc (suc zero))) h = refl
-numbers-clean (suc (suc (suc (suc i)))) h = absurd (omega arith)
+abbrev two : List ℕ
+two = minusOne ++ signallingNan ++ infinity ++ minusNan
 
--- refusal 5 for no byte, 4, 7, 9 and 12 bytes; 'none'; the place of a NaN alone, among numbers, and either place of two
-pub right-replies :
-    Screens [] (Refused 5)
-    × Screens (replicate 4 0) (Refused 5)
-    × Screens (replicate 7 0) (Refused 5)
-    × Screens (replicate 9 0) (Refused 5)
-    × Screens (quietNan ++ replicate 4 0) (Refused 5)
-    × Screens numbers Clean
-    × Screens quietNan (Missing 0)
-    × Screens minusNan (Missing 0)
-    × Screens signallingNan (Missing 0)
-    × Screens (minusOne ++ quietNan ++ infinity) (Missing 1)
-    × Screens (minusNan ++ infinity ++ quietNan) (Missing 0)
-    × Screens (minusNan ++ infinity ++ quietNan) (Missing 2)
+-- refusal 5 for no byte, 4, 7, 9 and 12 bytes; 'none'; the place of a NaN alone, among numbers, the first, the last; the first of two, of two
+-- that lie apart and where every weight is one
+pub replies :
+    (screened [] ≡ Refused 5)
+    × (screened (replicate 4 0) ≡ Refused 5)
+    × (screened (replicate 7 0) ≡ Refused 5)
+    × (screened (replicate 9 0) ≡ Refused 5)
+    × (screened (quietNan ++ replicate 4 0) ≡ Refused 5)
+    × (screened numbers ≡ Clean)
+    × (screened quietNan ≡ Missing 0)
+    × (screened minusNan ≡ Missing 0)
+    × (screened signallingNan ≡ Missing 0)
+    × (screened (minusOne ++ quietNan ++ infinity) ≡ Missing 1)
+    × (screened (numbers ++ minusNan) ≡ Missing 4)
+    × (screened two ≡ Missing 1)
+    × (screened (minusNan ++ infinity ++ quietNan) ≡ Missing 0)
+    × (screened (quietNan ++ minusNan ++ signallingNan) ≡ Missing 0)
+unfolding numberAt screened
+replies = (refl, refl, refl, refl, refl, refl, refl, refl, refl, refl, refl, refl, refl, refl)
+
+-- what Screens says of two NaNs at 1 and 3
+pub two-screens : Screens two (Missing 1)
 unfolding numberAt
-right-replies = (
-  (refl, refl),
-  (refl, refl),
-  (refl, refl),
-  (refl, refl),
-  (refl, refl),
-  (refl, numbers-clean),
-  (refl, lit< tt, refl),
-  (refl, lit< tt, refl),
-  (refl, lit< tt, refl),
-  (refl, lit< tt, refl),
-  (refl, lit< tt, refl),
-  (refl, lit< tt, refl),
-)
+two-screens = (refl, lit< tt, refl, first) where
+  first : NoneBefore two 1
+  first zero h = refl
+  first (suc i) h = absurd (omega arith)
+
+pub numbers-screens : Screens numbers Clean
+unfolding numberAt
+numbers-screens = (refl, clean) where
+  clean : NoneBefore numbers 4
+  clean zero h = refl
+  clean (suc zero) h = refl
+  clean (suc (suc zero)) h = refl
+  clean (suc (suc (suc zero))) h = refl
+  clean (suc (suc (suc (suc i)))) h = absurd (omega arith)
 
 abbrev Wrong : List ℕ → Screened → Type 0
 Wrong p r = Screens p r → ⊥
 
--- another number than 5; 5 for a payload of whole weights; 'none' or a place for another; 'none' before looking; the place of a number;
--- the place in bytes
+-- another number than 5; 5 for a payload of whole weights; 'none' or a place for another; 'none' before looking; the place of a number, before
+-- the first NaN and behind it; the place in bytes; a place past the end; the last NaN
 pub wrong-replies :
     Wrong [] (Refused 6)
     × Wrong [] (Refused 0)
@@ -96,10 +99,11 @@ pub wrong-replies :
     × Wrong [] Clean
     × Wrong (quietNan ++ replicate 4 0) Clean
     × Wrong (quietNan ++ replicate 4 0) (Missing 0)
-    × Wrong (minusOne ++ quietNan ++ infinity) Clean
-    × Wrong (minusOne ++ quietNan ++ infinity) (Missing 0)
-    × Wrong (minusOne ++ quietNan ++ infinity) (Missing 2)
-    × Wrong (minusOne ++ quietNan ++ infinity) (Missing 8)
+    × Wrong two Clean
+    × Wrong two (Missing 0)
+    × Wrong two (Missing 2)
+    × Wrong two (Missing 8)
+    × Wrong two (Missing 3)
 unfolding numberAt
 wrong-replies = (
   λ s. omega (arith, s .0),
@@ -113,4 +117,5 @@ wrong-replies = (
   λ s. true≢false (sym (s .2)),
   λ s. true≢false (sym (s .2)),
   λ s. true≢false (sym (s .2)),
+  λ s. true≢false (s .3 1 (lit< tt)),
 )

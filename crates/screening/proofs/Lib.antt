@@ -1,2 +1,4 @@
+-- The computed reply and the documents' words.
+mod First
 -- Worked examples of the definitions.
 mod Examples

@@ -1,10 +1,10 @@
 // Screening a kind 1 payload for weights that are no number, before it is sent.
 //
-// screening promises what Screens of specs/Screening.antt says of its reply, for every payload. Among several NaNs the place is free.
+// The reply is screened of specs/Screening.antt, for every payload: refusal 5, or that there is no NaN, or the place of the first.
 ghost use mathlib.Core.Path.{_≡_};
 ghost use Prim.Native.Nat.{_+_, _≤_};
 ghost use lib.ListN.{length};
-ghost use Rattle.screening.specs.Screening.{Screens, isNan};
+ghost use Rattle.screening.specs.Screening.{screened, isNan};
 ghost use Rattle.words.specs.Bytes.{numberAt};
 
 pub enum Screened {
@@ -12,7 +12,7 @@ pub enum Screened {
     Refused(u8),
     // No weight is a NaN.
     Clean,
-    // The place of a weight that is a NaN, counted in weights from 0.
+    // The place of the first weight that is a NaN, counted in weights from 0.
     Missing(usize),
 }
 
@@ -32,7 +32,7 @@ fn is_nan_at(payload: &[u8], at: usize) -> bool
 }
 
 pub fn screening(payload: &[u8]) -> Screened
-    ensures { λ r. ⌜ Screens (now (payload .entry)) r ⌝ }
+    ensures { λ r. ⌜ r ≡ screened (now (payload .entry)) ⌝ }
 {
     let n = payload.len();
     if n == 0 {

@@ -1,7 +1,7 @@
 // Runs the vectors of standard input through screening: a line for each failure, and then the count.
 //
-// A vector is `PAYLOAD REFUSAL PLACES`: the payload's bytes, two digits each, the refusal's number or 0, and a bit for each weight that is
-// a NaN, the lowest for the first weight. Any of these places is right. A failure's got is 0.
+// A vector is `PAYLOAD TAG NUMBER`: the payload's bytes, two digits each, and the reply, 0 and the refusal's number, 1 and 0 where no weight is
+// a NaN, or 2 and the place of the first. A failure's got is 0.
 use screening::Screened;
 use vectors::Answer;
 use vectors::Number;
@@ -31,22 +31,15 @@ fn read_payload(text: &[u8], space: &mut [u8]) -> usize {
     len
 }
 
-fn is_missing(place: usize, places: u64) -> bool {
-    if place < 64 {
-        return (places >> place as u64) % 2 == 1;
-    }
-    false
-}
-
-fn is_right(reply: Screened, refusal: u64, places: u64) -> bool {
+fn is_right(reply: Screened, tag: u64, number: u64) -> bool {
     match reply {
-        Screened::Refused(number) => number != 0 && number as u64 == refusal,
-        Screened::Clean => refusal == 0 && places == 0,
-        Screened::Missing(place) => refusal == 0 && is_missing(place, places),
+        Screened::Refused(refusal) => tag == 0 && refusal as u64 == number,
+        Screened::Clean => tag == 1 && number == 0,
+        Screened::Missing(place) => tag == 2 && place as u64 == number,
     }
 }
 
-// 1 where the reply is one of those that the line has.
+// 1 where the reply is the line's.
 fn answer(line: &[u8]) -> Answer {
     let mut space = [0u8; LONGEST];
     let len = read_payload(vectors::name_of(line), &mut space);

@@ -1,16 +1,13 @@
 -- `payloads_c::weigher_screening` meets its contract. Assumes nothing.
-use Prim.Native.Nat.{ℕ}
-use mathlib.Core.Path.{_≡_, sym, ap}
-use mathlib.Core.List.{List}
+use mathlib.Core.Path.{_≡_, sym, ap, _∙_}
 use borrow.Author.Needs.{needs}
-use Rattle.screening.specs.Screening.{Screens}
 use Rattle.screening.specs.declared.Screened.{Screened}
-use Rattle.payloads_c.specs.Screening.{encoded, Tells}
+use Rattle.payloads_c.specs.Screening.{encoded}
 use Rattle.payloads_c.proofs.weigher_screening.Statement.{statement}
 use Rattle.payloads_c.proofs.weigher_screening.Tie as tie
 
-tells : {p : List ℕ} {reply known : Screened} → Screens p reply → reply ≡ known → Tells p (encoded known)
-tells {reply = reply} h e = record { reply = reply; screens = h; stands = ap encoded (sym e) }
+tells : {reply known meant : Screened} → reply ≡ meant → reply ≡ known → encoded known ≡ encoded meant
+tells h e = ap encoded (sym e ∙ h)
 
 screening-requires : tie.Need-screening-requires
 screening-requires c κs = search needs

@@ -1,4 +1,4 @@
--- `screening::screening` meets its contract: no weight before the loop's place is a NaN. Assumes nothing.
+-- `screening::screening` meets its contract: no weight before the loop's place is a NaN, so that its reply is what Screens says. Assumes nothing.
 use Prim.Native.Nat.{ℕ, _*_, _-_, _%_, _≤_, _<_}
 use mathlib.Core.Path.{_≡_, refl, sym, ap, _∙_}
 use mathlib.Core.Bool.{false}
@@ -8,7 +8,9 @@ use borrow.Author.Count.{below-more}
 use borrow.Author.Tests.{eq-eqb, ne-eqb}
 use lib.ListN.{length}
 use Rattle.words.specs.Bytes.{numberAt}
-use Rattle.screening.specs.Screening.{badWeights, isNan, weightAt}
+use Rattle.screening.specs.Screening.{badWeights, isNan, NoneBefore}
+use Rattle.screening.specs.declared.Screened.the-variants.{Refused, Clean, Missing}
+use Rattle.screening.proofs.First.{settles}
 use Rattle.screening.proofs.screening.Statement.{statement}
 use Rattle.screening.proofs.screening.Tie as tie
 
@@ -16,16 +18,16 @@ good : (p : List ℕ) → (length p ≡ 0 → ⊥) → length p % 8 ≡ 0 → ba
 good p h e = rw (ne-eqb (length p) 0 h, eq-eqb (length p % 8) 0 e) refl
 
 abbrev Inv-loop : tie.InvT-loop
-Inv-loop payload n place₀ at₀ place at = (at ≡ 8 * place) × (at ≤ length payload) × ((k : ℕ) → k < place → isNan (weightAt payload k) ≡ false)
+Inv-loop payload n place₀ at₀ place at = (at ≡ 8 * place) × (at ≤ length payload) × NoneBefore payload place
 
 abbrev μ-loop : tie.MeasureT-loop
 μ-loop payload n place₀ at₀ place at = length payload - at
 
 returns : tie.Need-returns Inv-loop μ-loop
-returns c = (refl, rw (eq-eqb _ _ (c .if1 .taken)) refl)
+returns c = settles _ .only (Refused 5) (refl, rw (eq-eqb _ _ (c .if1 .taken)) refl)
 
 returns-2 : tie.Need-returns-2 Inv-loop μ-loop
-returns-2 c = (refl, rw (ne-eqb _ _ (c .before .if1 .left), ne-eqb _ _ (c .if2 .taken)) refl)
+returns-2 c = settles _ .only (Refused 5) (refl, rw (ne-eqb _ _ (c .before .if1 .left), ne-eqb _ _ (c .if2 .taken)) refl)
 
 loop-holds : tie.Need-loop-holds Inv-loop μ-loop
 loop-holds c = (omega arith, omega arith, λ k h. absurd (omega arith))
@@ -36,10 +38,12 @@ is-nan-at-requires c κs = omega arith
 returns-3 : tie.Need-returns-3 Inv-loop μ-loop
 returns-3 c =
     let l = c .before .before .before in
-    let p = l .before .before .before .before .args .payload .now in (
+    let p = l .before .before .before .before .args .payload .now in
+    settles p .only (Missing _) (
       good p (omega arith) (omega arith),
       omega arith,
       ap (λ (k : ℕ). isNan (numberAt 8 p k)) (sym (l .loop .inv .0)) ∙ sym (c .before .is-nan-at .ensures) ∙ c .if3 .taken,
+      l .loop .inv .2,
     )
 
 add-place : tie.Need-add-place Inv-loop μ-loop
@@ -64,7 +68,7 @@ returns-4 : tie.Need-returns-4 Inv-loop μ-loop
 returns-4 c =
     let l = c .before in
     let p = l .before .before .before .before .args .payload .now in
-    (good p (omega arith) (omega arith), λ k h. l .loop .inv .2 k (omega arith))
+    settles p .only Clean (good p (omega arith) (omega arith), λ k h. l .loop .inv .2 k (omega arith))
 
 pub screening-spec : {M : Type 1} → statement M
 screening-spec =
