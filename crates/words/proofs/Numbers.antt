@@ -2,7 +2,7 @@
 use Prim.Native.Nat.{ℕ, suc, _+_, _*_, _^_, _≤_}
 use mathlib.Core.Path.{_≡_, refl, sym, ap, _∙_}
 use mathlib.Core.List.{List, [], _∷_, _++_}
-use native.Mathlib.Nat.{pow-suc, add-mul, mul-assoc, mul-comm, mul-left-comm}
+use native.Mathlib.Nat.{pow-suc, add-assoc, add-mul, mul-assoc, mul-comm, mul-left-comm}
 use native.Mathlib.Numerals.{add-one}
 use native.Mathlib.Omega.{arith}
 use lib.ListN.{length, getD, take, drop, length-drop}
@@ -41,6 +41,14 @@ pair s at h =
     let e : drop at s ≡ getD s at 0 ∷ getD s (at + 1) 0 ∷ drop (suc (at + 1)) s =
     drop-cons s at 0 (omega arith) ∙ ap (λ (l : List ℕ). getD s at 0 ∷ l) (ap (λ (n : ℕ). drop n s) (sym (add-one at)) ∙ drop-cons s (at + 1) 0 (omega arith)) in
     rw e (omega arith)
+
+pub four : (s : List ℕ) (at : ℕ) → at + 4 ≤ length s
+    → getD s at 0 * 16777216 + getD s (at + 1) 0 * 65536 + getD s (at + 2) 0 * 256 + getD s (at + 3) 0 ≡ numberAt 4 s at
+four s at h =
+    let high = pair s at (omega arith) in
+    let low : getD s (at + 2) 0 * 256 + getD s (at + 3) 0 ≡ numberAt 2 s (at + 2) = simp add-assoc at (pair s (at + 2) (omega arith)) in
+    let both = join 2 2 s at (omega arith) in
+    omega (arith, high, low, both)
 
 pub length-word : (x : ℕ) → length (wordBytes x) ≡ 8
 unfolding wordBytes

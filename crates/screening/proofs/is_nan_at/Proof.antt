@@ -1,15 +1,32 @@
--- `screening::is_nan_at` meets its contract. Assumes nothing.
-use mathlib.Core.Path.{ap}
+-- `screening::is_nan_at` meets its contract: the shift drops the sign and doubles the rest. Assumes nothing.
+use Prim.Native.Nat.{ℕ, _+_, _*_, _/_, _%_, _^_}
+use mathlib.Core.Path.{_≡_, refl, ap, _∙_}
+use mathlib.Core.Bool.{Bool, true, false}
+use native.Mathlib.Omega.{arith}
+use lib.Arith.{mod-mul}
+use lib.Dec.{ltb, lit<}
 use Rattle.screening.specs.Screening.{isNan}
 use borrow.Author.Needs.{needs}
+use borrow.Author.Tests.{ltb-true, ltb-false, lt-ltb, le-ltb}
 use Rattle.screening.proofs.is_nan_at.Statement.{statement}
 use Rattle.screening.proofs.is_nan_at.Tie as tie
+
+twice : (x : ℕ) → x * 2 % 2 ^ 64 ≡ x % 2 ^ 63 * 2
+twice x =
+    let half : x * 2 / 2 ≡ x = omega arith in
+    mod-mul (x * 2) {m = 2 ^ 63} {c = 2} (lit< tt) (lit< tt) ∙ ap (λ (k : ℕ). k % 2 ^ 63 * 2 + x * 2 % 2) half ∙ omega arith
+
+shifted : (x : ℕ) → ltb 0xffe0000000000000 (x * 2 % 2 ^ 64) ≡ isNan x
+shifted x = told (isNan x) refl where
+  told : (b : Bool) → isNan x ≡ b → ltb 0xffe0000000000000 (x * 2 % 2 ^ 64) ≡ b
+  told true h = lt-ltb 0xffe0000000000000 (x * 2 % 2 ^ 64) (omega (arith, twice x, ltb-true 0x7ff0000000000000 (x % 2 ^ 63) h))
+  told false h = le-ltb 0xffe0000000000000 (x * 2 % 2 ^ 64) (omega (arith, twice x, ltb-false 0x7ff0000000000000 (x % 2 ^ 63) h))
 
 read-u64-requires : tie.Need-read-u64-requires
 read-u64-requires c κs = search needs
 
 returns : tie.Need-returns
-returns c = ap isNan (c .read-u64 .ensures)
+returns c = shifted (c .read-u64 .result) ∙ ap isNan (c .read-u64 .ensures)
 
 pub is-nan-at-spec : {M : Type 1} → statement M
 is-nan-at-spec = tie.close (tie.spec read-u64-requires returns)
