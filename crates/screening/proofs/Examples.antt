@@ -1,5 +1,5 @@
 -- Worked examples of specs/Screening.antt, computed: right replies, and wrong ones. Assumes nothing.
-use Prim.Native.Nat.{ℕ, zero, suc, _<_}
+use Prim.Native.Nat.{ℕ}
 use mathlib.Core.Path.{_≡_, refl, sym}
 use mathlib.Core.List.{List, [], _∷_, _++_}
 use mathlib.Core.Bool.{true, false, true≢false}
@@ -7,9 +7,10 @@ use native.Mathlib.Omega.{arith}
 use lib.ListN.{replicate}
 use lib.Dec.{lit<}
 use Rattle.words.specs.Bytes.{numberAt}
-use Rattle.screening.specs.Screening.{screened, NoneBefore, Screens}
+use Rattle.screening.specs.Screening.{screened, Screens}
 use Rattle.screening.specs.declared.Screened.{Screened}
 use Rattle.screening.specs.declared.Screened.the-variants.{Refused, Clean, Missing}
+use Rattle.screening.proofs.First.{settles}
 
 -- ---- weights as they stand in a payload
 
@@ -68,29 +69,20 @@ pub replies :
 unfolding numberAt screened
 replies = (refl, refl, refl, refl, refl, refl, refl, refl, refl, refl, refl, refl, refl, refl)
 
--- what Screens says of two NaNs at 1 and 3
+-- what holds of the first of two NaNs, and of no NaN
 pub two-screens : Screens two (Missing 1)
-unfolding numberAt
-two-screens = (refl, lit< tt, refl, first) where
-  first : NoneBefore two 1
-  first zero h = refl
-  first (suc i) h = absurd (omega arith)
+unfolding numberAt screened
+two-screens = settles two .screens
 
 pub numbers-screens : Screens numbers Clean
-unfolding numberAt
-numbers-screens = (refl, clean) where
-  clean : NoneBefore numbers 4
-  clean zero h = refl
-  clean (suc zero) h = refl
-  clean (suc (suc zero)) h = refl
-  clean (suc (suc (suc zero))) h = refl
-  clean (suc (suc (suc (suc i)))) h = absurd (omega arith)
+unfolding numberAt screened
+numbers-screens = settles numbers .screens
 
 abbrev Wrong : List ℕ → Screened → Type 0
 Wrong p r = Screens p r → ⊥
 
 -- another number than 5; 5 for a payload of whole weights; 'none' or a place for another; 'none' before looking; the place of a number, before
--- the first NaN and behind it; the place in bytes; a place past the end; the last NaN
+-- the first NaN and behind it; the place in bytes; the last NaN
 pub wrong-replies :
     Wrong [] (Refused 6)
     × Wrong [] (Refused 0)

@@ -16,17 +16,17 @@ twice x =
     let half : x * 2 / 2 ≡ x = omega arith in
     mod-mul (x * 2) {m = 2 ^ 63} {c = 2} (lit< tt) (lit< tt) ∙ ap (λ (k : ℕ). k % 2 ^ 63 * 2 + x * 2 % 2) half ∙ omega arith
 
-shifted : (x : ℕ) → ltb 0xffe0000000000000 (x * 2 % 2 ^ 64) ≡ isNan x
-shifted x = told (isNan x) refl where
-  told : (b : Bool) → isNan x ≡ b → ltb 0xffe0000000000000 (x * 2 % 2 ^ 64) ≡ b
-  told true h = lt-ltb 0xffe0000000000000 (x * 2 % 2 ^ 64) (omega (arith, twice x, ltb-true 0x7ff0000000000000 (x % 2 ^ 63) h))
-  told false h = le-ltb 0xffe0000000000000 (x * 2 % 2 ^ 64) (omega (arith, twice x, ltb-false 0x7ff0000000000000 (x % 2 ^ 63) h))
+shifted : (c x : ℕ) → ltb (c * 2) (x * 2 % 2 ^ 64) ≡ ltb c (x % 2 ^ 63)
+shifted c x = told (ltb c (x % 2 ^ 63)) refl where
+  told : (b : Bool) → ltb c (x % 2 ^ 63) ≡ b → ltb (c * 2) (x * 2 % 2 ^ 64) ≡ b
+  told true h = lt-ltb (c * 2) (x * 2 % 2 ^ 64) (omega (arith, twice x, ltb-true c (x % 2 ^ 63) h))
+  told false h = le-ltb (c * 2) (x * 2 % 2 ^ 64) (omega (arith, twice x, ltb-false c (x % 2 ^ 63) h))
 
 read-u64-requires : tie.Need-read-u64-requires
 read-u64-requires c κs = search needs
 
 returns : tie.Need-returns
-returns c = shifted (c .read-u64 .result) ∙ ap isNan (c .read-u64 .ensures)
+returns c = shifted 0x7ff0000000000000 (c .read-u64 .result) ∙ ap isNan (c .read-u64 .ensures)
 
 pub is-nan-at-spec : {M : Type 1} → statement M
 is-nan-at-spec = tie.close (tie.spec read-u64-requires returns)

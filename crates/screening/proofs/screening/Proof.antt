@@ -8,7 +8,7 @@ use borrow.Author.Count.{below-more}
 use borrow.Author.Tests.{eq-eqb, ne-eqb}
 use lib.ListN.{length}
 use Rattle.words.specs.Bytes.{numberAt}
-use Rattle.screening.specs.Screening.{badWeights, isNan, NoneBefore}
+use Rattle.screening.specs.Screening.{badWeights, isNan, weightAt, NoneBefore}
 use Rattle.screening.specs.declared.Screened.the-variants.{Refused, Clean, Missing}
 use Rattle.screening.proofs.First.{settles}
 use Rattle.screening.proofs.screening.Statement.{statement}
@@ -16,6 +16,9 @@ use Rattle.screening.proofs.screening.Tie as tie
 
 good : (p : List ℕ) → (length p ≡ 0 → ⊥) → length p % 8 ≡ 0 → badWeights p ≡ false
 good p h e = rw (ne-eqb (length p) 0 h, eq-eqb (length p % 8) 0 e) refl
+
+weight-at : (p : List ℕ) (i at : ℕ) → at ≡ 8 * i → isNan (weightAt p i) ≡ isNan (numberAt 8 p at)
+weight-at p i at e = ap (λ (k : ℕ). isNan (numberAt 8 p k)) (sym e)
 
 abbrev Inv-loop : tie.InvT-loop
 Inv-loop payload n place₀ at₀ place at = (at ≡ 8 * place) × (at ≤ length payload) × NoneBefore payload place
@@ -42,7 +45,7 @@ returns-3 c =
     settles p .only (Missing _) (
       good p (omega arith) (omega arith),
       omega arith,
-      ap (λ (k : ℕ). isNan (numberAt 8 p k)) (sym (l .loop .inv .0)) ∙ sym (c .before .is-nan-at .ensures) ∙ c .if3 .taken,
+      weight-at p (l .loop .place) (l .loop .at) (l .loop .inv .0) ∙ sym (c .before .is-nan-at .ensures) ∙ c .if3 .taken,
       l .loop .inv .2,
     )
 
@@ -61,7 +64,7 @@ loop-again c =
     let p = l .before .before .before .before .args .payload .now in (
       omega arith,
       omega arith,
-      below-more _ _ (l .loop .inv .2) (ap (λ (k : ℕ). isNan (numberAt 8 p k)) (sym (l .loop .inv .0)) ∙ sym (c .before .is-nan-at .ensures) ∙ c .if3 .left),
+      below-more _ _ (l .loop .inv .2) (weight-at p (l .loop .place) (l .loop .at) (l .loop .inv .0) ∙ sym (c .before .is-nan-at .ensures) ∙ c .if3 .left),
     )
 
 returns-4 : tie.Need-returns-4 Inv-loop μ-loop
