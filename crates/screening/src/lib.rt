@@ -27,7 +27,7 @@ fn is_nan_at(payload: &[u8], at: usize) -> bool
     requires { ⌜ at + 8 ≤ length (now payload) ⌝ }
     ensures { λ r. ⌜ r ≡ isNan (numberAt 8 (now (payload .entry)) at) ⌝ }
 {
-    // The shift drops the sign. A mask would do as well, but for it the compiler takes the load apart again.
+    // The shift drops the sign. With a mask in its place the compiler reads byte by byte.
     TWICE_INFINITY < words::read_u64(payload, at) << 1
 }
 

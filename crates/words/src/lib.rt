@@ -2,7 +2,7 @@
 // the definitions of specs/Bytes.antt.
 ghost use mathlib.Core.Path.{_≡_};
 ghost use mathlib.Core.List.{_++_};
-ghost use Prim.Native.Nat.{_+_, _≤_, _<_};
+ghost use Prim.Native.Nat.{_+_, _*_, _≤_, _<_};
 ghost use lib.ListN.{length, drop};
 ghost use Rattle.words.specs.Bytes.{numberAt, wordBytes};
 
@@ -20,16 +20,19 @@ pub fn read_u16(bytes: &[u8], at: usize) -> u16
     wide(bytes[at]) * 256 + wide(bytes[at + 1])
 }
 
-// Four bytes from a place on: as one sum, of which the compiler makes a single load.
+// Four bytes as one sum, so that the compiler loads them, and eight, at once.
+fn join(b0: u8, b1: u8, b2: u8, b3: u8) -> u32
+    ensures { λ r. ⌜ r ≡ b0 * 16777216 + b1 * 65536 + b2 * 256 + b3 ⌝ }
+{
+    b0 as u32 * 16777216 + b1 as u32 * 65536 + b2 as u32 * 256 + b3 as u32
+}
+
+// Four bytes from a place on.
 pub fn read_u32(bytes: &[u8], at: usize) -> u32
     requires { ⌜ at + 4 ≤ length (now bytes) ⌝ }
     ensures { λ r. ⌜ r ≡ numberAt 4 (now (bytes .entry)) at ⌝ }
 {
-    let b0 = wide(bytes[at]) as u32;
-    let b1 = wide(bytes[at + 1]) as u32;
-    let b2 = wide(bytes[at + 2]) as u32;
-    let b3 = wide(bytes[at + 3]) as u32;
-    b0 * 16777216 + b1 * 65536 + b2 * 256 + b3
+    join(bytes[at], bytes[at + 1], bytes[at + 2], bytes[at + 3])
 }
 
 // Eight bytes from a place on.
