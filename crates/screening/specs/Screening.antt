@@ -24,7 +24,7 @@ weightAt p i = numberAt 8 p (8 * i)
 
 -- ---- the reply, computed
 
--- of n weights from the place i on, the place of the first NaN
+-- the first NaN among n weights, from the place i on
 abbrev pub firstNan : List ℕ → ℕ → ℕ → Screened
 firstNan p i zero = Clean
 firstNan p i (suc n) = cond (isNan (weightAt p i)) (Missing i) (firstNan p (suc i) n)
