@@ -241,18 +241,7 @@ fn the_place_of_a_payload() {
     }
 }
 
-/// The reply to so many weights, by a plain loop.
-fn first_missing(weights: &[f64]) -> Screening {
-    for (place, weight) in weights.iter().enumerate() {
-        if weight.is_nan() {
-            return Screening::Missing(place);
-        }
-    }
-    Screening::Clean
-}
-
 fn check_screening(weights: &[f64], expected: Screening) {
-    assert_eq!(first_missing(weights), expected);
     assert_eq!(screening(&frame(1, weights)[4..]), expected);
 }
 

@@ -1,9 +1,10 @@
-//! The functions on the repository's recorded vectors: answers of the Rust exp2m1 and of the machine's operations.
+//! The functions on the repository's recorded vectors: answers of the Rust exp2m1, of the machine's operations, and for screening of a plain loop.
 
-use weigher::bits;
+use weigher::{Refusal, Screening, bits, screening};
 
 const SCORES: &str = include_str!("../../../crates/exp2m1_vectors/stdin");
 const OPERATIONS: &str = include_str!("../../../crates/ieee754_vectors/stdin");
+const SCREENINGS: &str = include_str!("../../../crates/screening_vectors/stdin");
 
 fn number(word: &str) -> u64 {
     u64::from_str_radix(word, 16).expect("a hexadecimal number")
@@ -35,4 +36,30 @@ fn scores() {
 #[test]
 fn operations() {
     assert_ne!(run(OPERATIONS), 0);
+}
+
+fn bytes(digits: &str) -> Vec<u8> {
+    let pairs = digits.as_bytes().chunks_exact(2);
+    pairs
+        .map(|pair| number(str::from_utf8(pair).expect("digits")) as u8)
+        .collect()
+}
+
+/// A line has a payload's bytes and the reply: 0 and the refusal's number, 1 and 0 where no weight is a NaN, or 2 and the place of the first.
+#[test]
+fn screenings() {
+    for line in SCREENINGS.lines() {
+        let words: Vec<&str> = line.split(' ').collect();
+        let [payload, tag, reply] = words[..] else {
+            panic!("no vector: {line}");
+        };
+        let want = match (tag, number(reply)) {
+            ("0", 5) => Screening::Refused(Refusal::BadPayload),
+            ("1", 0) => Screening::Clean,
+            ("2", place) => Screening::Missing(place as usize),
+            _ => panic!("no reply: {line}"),
+        };
+        assert_eq!(screening(&bytes(payload)), want, "{line}");
+    }
+    assert_ne!(SCREENINGS.lines().count(), 0);
 }

@@ -27,7 +27,7 @@ fn is_nan_at(payload: &[u8], at: usize) -> bool
     requires { ⌜ at + 8 ≤ length (now payload) ⌝ }
     ensures { λ r. ⌜ r ≡ isNan (numberAt 8 (now (payload .entry)) at) ⌝ }
 {
-    // The shift drops the sign. With a mask in its place the compiler reads byte by byte.
+    // The shift drops the sign. With a mask in its place the compiler reads the last four bytes one by one.
     TWICE_INFINITY < words::read_u64(payload, at) << 1
 }
 
