@@ -1,29 +1,41 @@
--- Answers (document 01, "A delivery enters"): the results of a payload's items, and the answer to a whole frame of each kind. Lengths,
--- kinds and the refusals 1 to 5 come before it, in crates/frames/specs/Frame.antt. Definitions only.
+-- Answers (document 01, "A delivery enters"; document 02, A.3): the results of a payload's items, and the answer to a whole frame of each
+-- kind. Lengths, kinds and the sender's refusals come before it, in crates/frames/specs/Frame.antt. Definitions only.
 use Prim.Native.Nat.{ℕ, zero, suc, _+_, _*_, _/_, _%_, _-_}
 use mathlib.Core.List.{List, [], _∷_, _++_}
 use mathlib.Core.Bool.{cond}
 use lib.ListN.{length, getD, drop}
 use lib.Dec.{eqb}
 use Rattle.words.specs.Bytes.{numberAt, wordBytes}
+use Rattle.rounding.specs.Named.{directionOf}
+use Rattle.rounding.specs.declared.Direction.{Direction}
 use Rattle.rounding.specs.declared.Direction.the-variants.{Nearest}
+use Rattle.rounding.specs.declared.Named.{Named}
+use Rattle.rounding.specs.declared.Named.the-variants.{Known, Unknown}
 use Rattle.ieee754.specs.Operations.{fusedBits}
 use Rattle.exp2m1.specs.Score.{scoreBits}
-use Rattle.frames.specs.Frame.{bodyLength, itemBytes, refusalTo, refusalFrame}
+use Rattle.frames.specs.Frame.{bodyLength, itemsFrom, itemBytes, itemCount, refusalTo, refusalFrame}
 
 -- ---- results
+
+-- a × b + c is rounded to nearest, and in kind 3 in the direction that the payload's first byte names; one that names none is refused
+abbrev pub named : Named → Direction
+named (Known d) = d
+named Unknown = Nearest
+
+unfoldable pub directionIn : ℕ → List ℕ → Direction
+directionIn kind p = cond (eqb kind 3) (named (directionOf (getD p 0 0))) Nearest
 
 -- the result of the item at a place of a payload: the score of a weight, or a × b + c fused
 unfoldable pub resultAt : ℕ → List ℕ → ℕ → ℕ
 resultAt kind p at =
     cond (eqb kind 1)
     (scoreBits (numberAt 8 p at))
-    (fusedBits Nearest (numberAt 8 p at) (numberAt 8 p (at + 8)) (numberAt 8 p (at + 16)))
+    (fusedBits (directionIn kind p) (numberAt 8 p at) (numberAt 8 p (at + 8)) (numberAt 8 p (at + 16)))
 
 -- the results of the first n items of a payload in item order, 8 bytes each
 unfoldable pub resultsOf : ℕ → ℕ → List ℕ → List ℕ
 resultsOf kind zero p = []
-resultsOf kind (suc n) p = resultsOf kind n p ++ wordBytes (resultAt kind p (n * itemBytes kind))
+resultsOf kind (suc n) p = resultsOf kind n p ++ wordBytes (resultAt kind p (itemsFrom kind + n * itemBytes kind))
 
 -- ---- answers
 
@@ -38,7 +50,7 @@ answerFrame results = (2 + length results) / 256 ∷ (2 + length results) % 256 
 
 -- the answer to a body of n bytes that is not refused
 unfoldable pub accepted : ℕ → List ℕ → List ℕ
-accepted n body = answerFrame (resultsOf (getD body 1 0) ((n - 2) / itemBytes (getD body 1 0)) (drop 2 body))
+accepted n body = answerFrame (resultsOf (getD body 1 0) (itemCount (getD body 1 0) (n - 2)) (drop 2 body))
 
 unfoldable pub answerTo : ℕ → List ℕ → Answer
 answerTo n body =

@@ -1,15 +1,31 @@
 // The answer to a whole frame: the results of its payload, or its refusal, written into a buffer.
 //
-// The contracts are equations with document 01's answers on lists of bytes, in specs/Answers.antt.
+// The contracts are equations with the documents' answers on lists of bytes, in specs/Answers.antt.
 ghost use mathlib.Core.Path.{_≡_};
 ghost use mathlib.Core.List.{_++_};
-ghost use Prim.Native.Nat.{_+_, _*_, _≤_};
-ghost use lib.ListN.{length, drop};
-ghost use Rattle.frames.specs.Frame.{answerRoom, itemBytes, refusalTo};
+ghost use Prim.Native.Nat.{_+_, _*_, _≤_, _<_};
+ghost use lib.ListN.{length, getD, drop};
+ghost use Rattle.rounding.specs.Named.{directionOf};
+ghost use Rattle.frames.specs.Frame.{answerRoom, itemsFrom, itemBytes, refusalTo};
 ghost use Rattle.frames.specs.Body.{Body};
-ghost use Rattle.answers.specs.Answers.{resultAt, resultsOf, answerTo};
+ghost use Rattle.answers.specs.Answers.{named, resultAt, resultsOf, answerTo};
 ghost use Rattle.answers.specs.Written.{Written};
+use frames::DIRECTED;
 use frames::SCORES;
+use rounding::Direction;
+use rounding::Named;
+
+// The direction that a kind 3 payload names.
+fn direction_in(payload: &[u8]) -> Direction
+    requires { ⌜ 0 < length (now payload) ⌝ }
+    ensures { λ r. ⌜ r ≡ named (directionOf (getD (now (payload .entry)) 0 0)) ⌝ }
+{
+    let byte = rounding::direction_of(payload[0]);
+    match byte {
+        Named::Known(dir) => dir,
+        Named::Unknown => Direction::Nearest,
+    }
+}
 
 // The result of the item at a place of a payload.
 fn result_at(kind: u8, payload: &[u8], at: usize) -> u64
@@ -22,17 +38,20 @@ fn result_at(kind: u8, payload: &[u8], at: usize) -> u64
     let a = words::read_u64(payload, at);
     let b = words::read_u64(payload, at + 8);
     let c = words::read_u64(payload, at + 16);
-    multiply_add::fused(a, b, c)
+    if kind == DIRECTED {
+        return multiply_add::fused_in(direction_in(payload), a, b, c);
+    }
+    multiply_add::fused_nearest(a, b, c)
 }
 
 // Writes the results of the first n items of a payload.
 fn write_results(kind: u8, payload: &[u8], n: usize, out: &mut [u8])
-    requires { ⌜ (n * itemBytes kind ≤ length (now payload)) × (8 * n ≤ length (now out)) ⌝ }
+    requires { ⌜ (itemsFrom kind + n * itemBytes kind ≤ length (now payload)) × (8 * n ≤ length (now out)) ⌝ }
     ensures { λ r. ⌜ now (out .exit) ≡ resultsOf kind n (now (payload .entry)) ++ drop (8 * n) (now (out .entry)) ⌝ }
 {
     let size = frames::item_bytes(kind);
     let mut i = 0;
-    let mut from = 0;
+    let mut from = frames::items_from(kind);
     let mut at = 0;
     while i < n {
         let x = result_at(kind, payload, from);
@@ -55,7 +74,7 @@ fn write_answer(n: usize, body: &[u8], answer: &mut [u8]) -> usize
     ensures { λ r. ⌜ Written (answerTo n (now (body .entry))) (record { len = r; refusal = 0 }) (now (answer .entry)) (now (answer .exit)) ⌝ }
 {
     let kind = body[1];
-    let count = (n - 2) / frames::item_bytes(kind);
+    let count = frames::item_count(kind, n - 2);
     let size = 8 * count + 2;
     frames::write_head(answer, size, 0);
     write_results(kind, frames::payload(body), count, &mut answer[4..]);

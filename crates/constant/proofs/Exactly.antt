@@ -11,8 +11,8 @@ use lib.Ieee.{size}
 use borrow.Author.Tests.{eq-eqb, le-leb, eqb-true, leb-true}
 use Rattle.rounding.specs.Machine.{signBit}
 use Rattle.exactness.proofs.Precision.{dropped, dropped-lt, dropped-le, dropped-full, dropped-ge}
-use Rattle.constant.specs.declared.Reply.{Reply}
-use Rattle.constant.specs.declared.Reply.the-variants.{Refused, Bits}
+use Rattle.reply.specs.declared.Reply.{Reply}
+use Rattle.reply.specs.declared.Reply.the-variants.{Refused, Bits}
 use Rattle.constant.specs.Constant.{replyWith, exactly}
 
 -- num / den is q * 2 ^ k units of 2 ^ -1074, and a finite binary64

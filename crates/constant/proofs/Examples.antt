@@ -8,8 +8,8 @@ use Rattle.hexadecimal.specs.Text.{Spells, partsOf, numberFrom, digitOf, negati
 use Rattle.hexadecimal.specs.Test.{hasForm}
 use Rattle.hexadecimal.proofs.Form.{decides}
 use Rattle.hexadecimal.proofs.Examples.{bytes}
-use Rattle.constant.specs.declared.Reply.{Reply}
-use Rattle.constant.specs.declared.Reply.the-variants.{Refused, Bits}
+use Rattle.reply.specs.declared.Reply.{Reply}
+use Rattle.reply.specs.declared.Reply.the-variants.{Refused, Bits}
 use Rattle.constant.specs.Constant.{constantOf, Replies}
 use Rattle.constant.proofs.Replies.{settles, zero-keeps-sign}
 

@@ -6,8 +6,8 @@ use native.Mathlib.Nat.{le-trans, le-of-eq, lt-of-lt-of-le, lt-of-le-of-lt, lt-i
 use native.Mathlib.Omega.{arith}
 use lib.Dec.{lit≤, lit<}
 use lib.Pow.{pow-add, pow-pos, pow-mono, shl-lt}
-use Rattle.constant.specs.declared.Reply.{Reply}
-use Rattle.constant.specs.declared.Reply.the-variants.{Refused}
+use Rattle.reply.specs.declared.Reply.{Reply}
+use Rattle.reply.specs.declared.Reply.the-variants.{Refused}
 use Rattle.constant.specs.Constant.{exactly}
 use Rattle.constant.specs.Machine.{RepliesBits, RepliesPlaced}
 use Rattle.constant.proofs.Exactly.{Finite, exactly-none}

@@ -21,8 +21,8 @@ use Rattle.hexadecimal.specs.Text.{Parts, Spells, HasForm, partsOf, negative, n
 use Rattle.hexadecimal.specs.Test.{isLast, hasForm}
 use Rattle.hexadecimal.proofs.Steps.{steps}
 use Rattle.hexadecimal.proofs.Form.{decides, parts-of}
-use Rattle.constant.specs.declared.Reply.{Reply}
-use Rattle.constant.specs.declared.Reply.the-variants.{Refused, Bits}
+use Rattle.reply.specs.declared.Reply.{Reply}
+use Rattle.reply.specs.declared.Reply.the-variants.{Refused, Bits}
 use Rattle.constant.specs.Constant.{exactly, valueOf, constantOf, IsValue, Replies, Settles, ZeroKeepsSign}
 use Rattle.constant.proofs.Exactly.{Finite, Outcome, float, none, outcome, exactly-bits, exactly-none}
 use Rattle.constant.specs.Machine.{readFrom, unread, Finishes}

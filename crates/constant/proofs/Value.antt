@@ -11,8 +11,8 @@ use lib.Pow.{pow-add, pow-pos, pow-mono, shl-lt}
 use borrow.Author.Tests.{eqb-true, eqb-false, eq-eqb, ne-eqb, lt-ltb, ltb-true, ltb-false}
 use Rattle.wide.proofs.Nat.{le-or-gt}
 use Rattle.rounding.specs.Machine.{signBit}
-use Rattle.constant.specs.declared.Reply.{Reply}
-use Rattle.constant.specs.declared.Reply.the-variants.{Refused, Bits}
+use Rattle.reply.specs.declared.Reply.{Reply}
+use Rattle.reply.specs.declared.Reply.the-variants.{Refused, Bits}
 use Rattle.constant.specs.declared.Significand.{Significand}
 use Rattle.constant.specs.declared.Power.{Power}
 use Rattle.constant.specs.Constant.{exactly}

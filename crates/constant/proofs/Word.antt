@@ -10,7 +10,7 @@ use lib.Pow.{pow-add, pow-pos, pow-mono, shl-lt, shr-lt}
 use borrow.Author.Tests.{eqb-true, eqb-false}
 use Rattle.wide.proofs.Nat.{le-or-gt}
 use Rattle.rounding.specs.Machine.{signBit}
-use Rattle.constant.specs.declared.Reply.the-variants.{Refused, Bits}
+use Rattle.reply.specs.declared.Reply.the-variants.{Refused, Bits}
 use Rattle.constant.specs.Constant.{exactly}
 use Rattle.constant.specs.Machine.{wholeBits}
 use Rattle.constant.proofs.Exactly.{Finite, exactly-bits, exactly-none}

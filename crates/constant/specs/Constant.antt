@@ -11,8 +11,8 @@ use lib.Ieee.Exact.{HasValue}
 use Rattle.rounding.specs.Machine.{signBit}
 use Rattle.hexadecimal.specs.Text.{Parts, Spells, HasForm, partsOf, negative, number, num, den}
 use Rattle.hexadecimal.specs.Test.{hasForm}
-use Rattle.constant.specs.declared.Reply.{Reply}
-use Rattle.constant.specs.declared.Reply.the-variants.{Refused, Bits}
+use Rattle.reply.specs.declared.Reply.{Reply}
+use Rattle.reply.specs.declared.Reply.the-variants.{Refused, Bits}
 
 -- ---- the reply, computed
 

@@ -11,8 +11,8 @@ use Rattle.hexadecimal.specs.Text.{digitOf}
 use Rattle.hexadecimal.specs.Test.{nextStage, isLast}
 use Rattle.hexadecimal.specs.declared.Stage.{Stage}
 use Rattle.hexadecimal.specs.declared.Stage.the-variants.{Start, Signed, Zero, Prefix, Whole, LonePoint, Point, Fraction, P, ExponentSigned, Exponent, Malformed}
-use Rattle.constant.specs.declared.Reply.{Reply}
-use Rattle.constant.specs.declared.Reply.the-variants.{Refused, Bits}
+use Rattle.reply.specs.declared.Reply.{Reply}
+use Rattle.reply.specs.declared.Reply.the-variants.{Refused, Bits}
 use Rattle.constant.specs.declared.Significand.{Significand}
 use Rattle.constant.specs.declared.Power.{Power}
 use Rattle.constant.specs.declared.Reading.{Reading}

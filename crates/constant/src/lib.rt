@@ -3,6 +3,7 @@
 // constant promises the reply that specs/Constant.antt defines, for every text; nothing is rounded. A text is read byte by byte, so that
 // one which comes in pieces is read by read_on and finish, in the same memory however long it is (specs/Machine.antt).
 use hexadecimal::Stage;
+use reply::Reply;
 use rounding::LEADING;
 use rounding::sign_bit;
 ghost use mathlib.Core.Path.{_≡_};
@@ -10,13 +11,6 @@ ghost use Prim.Native.Nat.{ℕ, _+_, _-_, _≤_, _<_};
 ghost use lib.ListN.{length};
 ghost use Rattle.constant.specs.Constant.{exactly, constantOf};
 ghost use Rattle.constant.specs.Machine.{withDigit, withDecimal, pushed, readFrom, unread, Within, mostPlaces, Holds, Finishes, wholeBits, RepliesBits, RepliesPlaced};
-
-pub enum Reply {
-    // The refusal's number.
-    Refused(u8),
-    // The float's pattern.
-    Bits(u64),
-}
 
 // The text has not the form.
 const BAD_TEXT: u8 = 9;

@@ -6,13 +6,14 @@ use mathlib.Core.List.{List}
 use native.Mathlib.Omega.{arith}
 use Rattle.hexadecimal.specs.Text.{numberFrom}
 use Rattle.hexadecimal.proofs.Examples.{bytes}
-use Rattle.constant.specs.declared.Reply.{Reply}
-use Rattle.constant.specs.declared.Reply.the-variants.{Refused, Bits}
+use Rattle.reply.specs.declared.Reply.{Reply}
+use Rattle.reply.specs.declared.Reply.the-variants.{Refused, Bits}
 use Rattle.constant.specs.Constant.{constantOf, Replies}
 use Rattle.constant.proofs.Replies.{settles}
-use Rattle.constant_c.specs.Told.{number, TellsApart}
+use Rattle.reply.specs.Told.{number, Apart}
+use Rattle.constant_c.specs.Told.{TellsApart}
 
-apart : (text : List ℕ) (r : Reply) → Replies text r → number r ≡ 0 → (b : ℕ) × (r ≡ Bits b)
+apart : (text : List ℕ) (r : Reply) → Replies text r → Apart r
 apart text (Refused n) (inl h) e = absurd (omega (arith, h .0))
 apart text (Refused n) (inr h) e = absurd (omega (arith, h .0))
 apart text (Bits b) h e = (b, refl)

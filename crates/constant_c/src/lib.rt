@@ -1,9 +1,9 @@
 // constant for C, declared in include/weigher.h. C has no enum with values: a reply is the number that is returned, 0 where the text is
-// read, and the float behind the pointer (specs/Told.antt).
+// read, and the float behind the pointer (specs/Told.antt of reply).
 ghost use mathlib.Core.Path.{_≡_};
 ghost use Rattle.constant.specs.Constant.{constantOf};
-ghost use Rattle.constant_c.specs.Told.{number, result};
-use constant::Reply;
+ghost use Rattle.reply.specs.Told.{number, result};
+use reply::Reply;
 
 // Reads a constant's text. Where it is refused, the result keeps its content.
 #[no_mangle]

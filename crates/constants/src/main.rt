@@ -4,7 +4,7 @@
 // All that decides a reply is in the crate constant. A read that fails and an output that takes nothing more end the program with a line
 // on standard error.
 use constant::Reading;
-use constant::Reply;
+use reply::Reply;
 ghost use Prim.Native.Nat.{ℕ, _+_, _-_, _≤_};
 ghost use lib.ListN.{length};
 ghost use Rattle.constant.specs.Machine.{Within, mostPlaces};

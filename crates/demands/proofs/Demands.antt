@@ -1,12 +1,13 @@
 -- Demands 1 and 3 hold. Assumes nothing.
 use Prim.Native.Nat.{ℕ, _≤_}
 use mathlib.Core.Path.{_≡_, refl, sym, ap, subst, subst₂, _∙_}
-use mathlib.Core.Logic.{_≢_}
+use mathlib.Core.Logic.{_≢_, inl, inr}
 use mathlib.Core.List.{List, [], _∷_, _++_, map, append-assoc}
 use mathlib.Core.Bool.{Bool, true, false}
 use native.Mathlib.Omega.{arith}
 use lib.ListN.{length, take, drop, length-drop, take-append-drop}
 use Rattle.frames.specs.Frame.{longestBody, whole}
+use Rattle.frames.proofs.Refusals.{Senders}
 use Rattle.partial_frame.specs.State.{frameOf, isLeft}
 use Rattle.service.specs.Memory.{Memory, viewOf}
 use Rattle.service.specs.Book.{Book, emptyBook, Call, Take, Close, Entry, Moved, Reply, move, settled, bookTake, closedWith, bookCall, bookReplies, isSmall}
@@ -24,15 +25,16 @@ use Rattle.demands.proofs.Partition.{part-right, part-unique}
 
 -- ---- the numbers
 
-small-not : {m n : ℕ} → m ≤ 5 → 6 ≤ n → m ≢ n
-small-not h k e = omega arith
+senders-not-7 : (n : ℕ) → Senders n → n ≢ 7
+senders-not-7 n (inl h) e = omega arith
+senders-not-7 n (inr h) e = omega arith
 
-settled-number : (m : Moved) (c : Memory) → settled m c .number ≤ 5
+settled-number : (m : Moved) (c : Memory) → Senders (settled m c .number)
 settled-number m c = go (whole (m .held)) refl
   where
-    go : (t : Bool) → whole (m .held) ≡ t → settled m c .number ≤ 5
+    go : (t : Bool) → whole (m .held) ≡ t → Senders (settled m c .number)
     go true e = rw e (answer-number (viewOf c) (m .held))
-    go false e = rw e (omega arith)
+    go false e = rw e (inl (omega arith))
 
 close-number : (h : List ℕ) (c : Memory) → closedWith h c .number ≢ 7
 close-number [] c e = omega arith
@@ -43,7 +45,7 @@ book-never-7 b (Take p buffer) = go (isSmall buffer) refl
   where
     go : (t : Bool) → isSmall buffer ≡ t → bookCall b (Take p buffer) .number ≢ 7
     go true e = rw e (λ z. let w : ⊥ = omega arith in w)
-    go false e = rw e (small-not (settled-number (move (b .held) p) (b .memory)) (omega arith))
+    go false e = rw e (senders-not-7 _ (settled-number (move (b .held) p) (b .memory)))
 book-never-7 b (Close buffer) = go (isSmall buffer) refl
   where
     go : (t : Bool) → isSmall buffer ≡ t → bookCall b (Close buffer) .number ≢ 7

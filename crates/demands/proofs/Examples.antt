@@ -9,7 +9,7 @@ use lib.Ieee.{ofBits, toBits}
 use borrow.Author.Tests.{leb-false}
 use Rattle.words.specs.Bytes.{numberAt, wordBytes}
 use Rattle.exp2m1.specs.Score.{steps, scoreBits}
-use Rattle.frames.specs.Frame.{answerRoom, bodyLength, whole, kept, isKind, itemBytes, badPayload, refusalTo, refusalFrame}
+use Rattle.frames.specs.Frame.{answerRoom, bodyLength, whole, kept, isKind, kindOf, badPayload, refusalTo, refusalFrame}
 use Rattle.answers.specs.Answers.{resultAt, resultsOf, accepted, answerTo, answerOf}
 use Rattle.partial_frame.specs.State.{keptBytes, placesOf, isLeft, bytesIn}
 use Rattle.service.specs.Book.{Book, emptyBook, stateOf, Call, Take, Close, Reply, bookCall, replyOf}
@@ -80,7 +80,7 @@ pub replies :
     ∷ (0 ∷ 0 ∷ 6 ∷ [])
     ∷ (2 ∷ 4 ∷ 1 ∷ [])
     ∷ [])
-unfolding takeOf closeOf isGood bookOf isLeft bytesIn placesOf keptBytes whole kept refusalTo isKind itemBytes badPayload resultAt resultsOf accepted answerTo answerOf scoreBits steps ofBits toBits numberAt wordBytes
+unfolding takeOf closeOf isGood bookOf isLeft bytesIn placesOf keptBytes whole kept refusalTo isKind kindOf badPayload resultAt resultsOf accepted answerTo answerOf scoreBits steps ofBits toBits numberAt wordBytes
 replies = (refl, refl, refl, refl)
 
 -- ---- demand 3

@@ -1,6 +1,6 @@
 // Fused multiply-add once more, quick where the exponents are near each other: the product and c then lie in two words with all their
 // digits, and neither is shifted down; and quick where the product is small beside c: then nothing cancels, and one word will do. All
-// other operands are handed to `multiply_add::fused`.
+// other operands are handed to `multiply_add::fused_nearest`.
 ghost use mathlib.Core.Path.{_≡_};
 ghost use mathlib.Core.Bool.{true};
 ghost use Prim.Native.Nat.{ℕ, _+_, _-_, _*_, _^_, _≤_, _<_};
@@ -206,7 +206,7 @@ pub fn fused(a: u64, b: u64, c: u64) -> u64
         if is_small(x, y, z) {
             fused_small(a, b, c)
         } else {
-            multiply_add::fused(a, b, c)
+            multiply_add::fused_nearest(a, b, c)
         }
     }
 }

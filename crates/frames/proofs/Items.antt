@@ -1,13 +1,70 @@
--- The bytes of an item, kind by kind. Assumes nothing.
-use Prim.Native.Nat.{ℕ}
+-- What belongs to each number of a kind. Assumes nothing.
+use Prim.Native.Nat.{ℕ, zero, suc, _+_, _*_, _-_, _/_, _≤_}
 use mathlib.Core.Path.{_≡_, refl}
-use borrow.Author.Tests.{eq-eqb, ne-eqb}
-use Rattle.frames.specs.Frame.{itemBytes}
+use mathlib.Core.List.{List}
+use mathlib.Core.Bool.{Bool, true, false}
+use native.Mathlib.Nat.{mul-le-mul-left, div-mul-le-self}
+use native.Mathlib.Omega.{arith}
+use lib.Dec.{leb, eqb}
+use borrow.Author.Tests.{lt-ltb, le-ltb, leb-true, leb-false, eqb-true, eqb-false}
+use Rattle.frames.specs.Frame.{isKind, kindOf, itemsFrom, itemBytes, itemCount}
+
+-- of every other number than 3 the items come first, and there is no refusal of its own
+pub items-first : (kind : ℕ) → (kind ≡ 3 → ⊥) → itemsFrom kind ≡ 0
+unfolding kindOf
+items-first zero n = refl
+items-first (suc zero) n = refl
+items-first (suc (suc zero)) n = refl
+items-first (suc (suc (suc zero))) n = absurd (n refl)
+items-first (suc (suc (suc (suc kind)))) n = refl
+
+pub none-own : (kind : ℕ) (payload : List ℕ) → (kind ≡ 3 → ⊥) → kindOf kind .own payload ≡ 0
+unfolding kindOf
+none-own zero p n = refl
+none-own (suc zero) p n = refl
+none-own (suc (suc zero)) p n = refl
+none-own (suc (suc (suc zero))) p n = absurd (n refl)
+none-own (suc (suc (suc (suc kind)))) p n = refl
 
 pub item-one : {kind : ℕ} → kind ≡ 1 → itemBytes kind ≡ 8
-unfolding itemBytes
-item-one {kind} e = rw (eq-eqb kind 1 e) refl
+unfolding kindOf
+item-one e = rw e refl
 
-pub item-other : {kind : ℕ} → (kind ≡ 1 → ⊥) → itemBytes kind ≡ 24
-unfolding itemBytes
-item-other {kind} e = rw (ne-eqb kind 1 e) refl
+pub item-other : (kind : ℕ) → (kind ≡ 1 → ⊥) → itemBytes kind ≡ 24
+unfolding kindOf
+item-other zero n = refl
+item-other (suc zero) n = absurd (n refl)
+item-other (suc (suc zero)) n = refl
+item-other (suc (suc (suc zero))) n = refl
+item-other (suc (suc (suc (suc kind)))) n = refl
+
+pub item-least : (kind : ℕ) → 8 ≤ itemBytes kind
+item-least kind = go (eqb kind 1) refl
+  where
+    go : (t : Bool) → eqb kind 1 ≡ t → 8 ≤ itemBytes kind
+    go true e = omega (arith, item-one (eqb-true kind 1 e))
+    go false e = omega (arith, item-other kind (eqb-false kind 1 e))
+
+pub some-kind : (kind : ℕ) → 1 ≤ kind → kind ≤ 3 → isKind kind ≡ true
+unfolding isKind
+some-kind zero l h = absurd (omega arith)
+some-kind (suc place) l h = lt-ltb place 3 (omega arith)
+
+pub no-kind : (kind : ℕ) → (1 ≤ kind → kind ≤ 3 → ⊥) → isKind kind ≡ false
+unfolding isKind
+no-kind zero n = refl
+no-kind (suc place) n = le-ltb place 3 (by (leb 3 place) refl)
+  where
+    by : (t : Bool) → leb 3 place ≡ t → 3 ≤ place
+    by true e = leb-true 3 place e
+    by false e = let h = leb-false 3 place e in absurd (n (omega arith) (omega arith))
+
+-- an item has 8 bytes at least, so that 8 bytes for each take no more room than the payload; and the items end within it
+pub items-fit : (kind n : ℕ) → 8 * itemCount kind n ≤ n
+items-fit kind n =
+    let m = n - itemsFrom kind in
+    let h : m / itemBytes kind * 8 ≤ m / itemBytes kind * itemBytes kind = mul-le-mul-left (m / itemBytes kind) (item-least kind) in
+    omega (arith, div-mul-le-self m (itemBytes kind))
+
+pub items-within : (kind n : ℕ) → itemsFrom kind ≤ n → itemsFrom kind + itemCount kind n * itemBytes kind ≤ n
+items-within kind n h = omega (arith, div-mul-le-self (n - itemsFrom kind) (itemBytes kind))

@@ -1,14 +1,23 @@
 -- `refusalTo`, case by case, as a function that tries the refusals in order comes to them. Assumes nothing.
-use Prim.Native.Nat.{ℕ, _-_, _≤_, _<_}
+use Prim.Native.Nat.{ℕ, zero, suc, _-_, _≤_, _<_}
 use mathlib.Core.Path.{_≡_, refl}
-use mathlib.Core.List.{List}
-use mathlib.Core.Bool.{Bool, true, false, cond, not, _&&_}
+use mathlib.Core.Logic.{_⊎_, inl, inr}
+use mathlib.Core.List.{List, [], _∷_}
+use mathlib.Core.Bool.{Bool, true, false, cond, not, _&&_, _||_}
 use native.Mathlib.Omega.{arith}
-use lib.ListN.{length, getD}
+use lib.ListN.{length, getD, drop}
 use lib.Dec.{ltb, leb, eqb}
-use borrow.Author.Tests.{lt-ltb, le-ltb, le-leb, leb-true, eq-eqb, ne-eqb, ltb-false}
-use Rattle.frames.specs.Frame.{longestBody, kept, refusalTo, isKind, badPayload}
+use borrow.Author.Tests.{lt-ltb, le-ltb, le-leb, leb-true, leb-false, eq-eqb, ne-eqb, ltb-false}
+use Rattle.rounding.specs.Named.{directionOf}
+use Rattle.rounding.specs.declared.Named.{Named}
+use Rattle.rounding.specs.declared.Named.the-variants.{Known, Unknown}
+use Rattle.frames.specs.Frame.{longestBody, kept, undirected, isKind, kindOf, itemsFrom, badPayload, orElse, refusalTo}
 use Rattle.frames.specs.Body.{Body}
+
+-- the first of two numbers, where it is not 0
+or-first : (m n : ℕ) → (m ≡ 0 → ⊥) → orElse m n ≡ m
+or-first zero n z = absurd (z refl)
+or-first (suc m) n z = refl
 
 pub kept-bounds : (n : ℕ) → kept n ≡ true → (2 ≤ n) × (n ≤ longestBody)
 unfolding kept
@@ -46,27 +55,55 @@ module _ (n : ℕ) (b : List ℕ) where
       bad-kind k = rw (le-ltb n 2 l, le-ltb longestBody n h, eq-eqb (getD b 0 0) 1 v, k) refl
 
       module _ (k : isKind (getD b 1 0) ≡ true) where
-        pub bad-payload : badPayload (getD b 1 0) (n - 2) ≡ true → refusalTo n b ≡ 5
+        pub own-refusal : {m : ℕ} → m ≡ kindOf (getD b 1 0) .own (drop 2 b) → (m ≡ 0 → ⊥) → refusalTo n b ≡ m
         unfolding refusalTo
-        bad-payload e = rw (le-ltb n 2 l, le-ltb longestBody n h, eq-eqb (getD b 0 0) 1 v, k, e) refl
+        own-refusal {m} e z = rw (le-ltb n 2 l, le-ltb longestBody n h, eq-eqb (getD b 0 0) 1 v, k, ← e) (or-first m _ z)
 
-        pub no-refusal : badPayload (getD b 1 0) (n - 2) ≡ false → refusalTo n b ≡ 0
-        unfolding refusalTo
-        no-refusal e = rw (le-ltb n 2 l, le-ltb longestBody n h, eq-eqb (getD b 0 0) 1 v, k, e) refl
+        module _ (o : kindOf (getD b 1 0) .own (drop 2 b) ≡ 0) where
+          pub bad-payload : badPayload (getD b 1 0) (n - 2) ≡ true → refusalTo n b ≡ 5
+          unfolding refusalTo
+          bad-payload e = rw (le-ltb n 2 l, le-ltb longestBody n h, eq-eqb (getD b 0 0) 1 v, k, o, e) refl
 
--- a choice is within what both sides are within
-cond-le : (t : Bool) {x y m : ℕ} → x ≤ m → y ≤ m → cond t x y ≤ m
-cond-le true h k = h
-cond-le false h k = k
+          pub no-refusal : badPayload (getD b 1 0) (n - 2) ≡ false → refusalTo n b ≡ 0
+          unfolding refusalTo
+          no-refusal e = rw (le-ltb n 2 l, le-ltb longestBody n h, eq-eqb (getD b 0 0) 1 v, k, o, e) refl
 
-pub refusal-most : (n : ℕ) (b : List ℕ) → refusalTo n b ≤ 5
+-- ---- the numbers
+
+-- a sender's number, or 0: none of 6 to 10, by which calls, the stream's end and texts are refused
+abbrev pub Senders : ℕ → Type 0
+Senders n = (n ≤ 5) ⊎ (11 ≤ n)
+
+cond-senders : (t : Bool) {x y : ℕ} → Senders x → Senders y → Senders (cond t x y)
+cond-senders true h k = h
+cond-senders false h k = k
+
+or-senders : (m : ℕ) {n : ℕ} → Senders m → Senders n → Senders (orElse m n)
+or-senders zero h k = k
+or-senders (suc m) h k = h
+
+undirected-senders : (n : Named) → Senders (undirected n)
+undirected-senders (Known d) = inl (omega arith)
+undirected-senders Unknown = inr (omega arith)
+
+own-senders : (kind : ℕ) (payload : List ℕ) → Senders (kindOf kind .own payload)
+unfolding kindOf
+own-senders zero p = inl (omega arith)
+own-senders (suc zero) p = inl (omega arith)
+own-senders (suc (suc zero)) p = inl (omega arith)
+own-senders (suc (suc (suc zero))) [] = inl (omega arith)
+own-senders (suc (suc (suc zero))) (b ∷ p) = undirected-senders (directionOf b)
+own-senders (suc (suc (suc (suc kind)))) p = inl (omega arith)
+
+pub refusal-senders : (n : ℕ) (b : List ℕ) → Senders (refusalTo n b)
 unfolding refusalTo
-refusal-most n b =
-    cond-le (ltb n 2) (omega arith)
-    (cond-le (ltb longestBody n) (omega arith)
-    (cond-le (not (eqb (getD b 0 0) 1)) (omega arith)
-    (cond-le (not (isKind (getD b 1 0))) (omega arith)
-    (cond-le (badPayload (getD b 1 0) (n - 2)) (omega arith) (omega arith)))))
+refusal-senders n b =
+    cond-senders (ltb n 2) (inl (omega arith))
+    (cond-senders (ltb longestBody n) (inl (omega arith))
+    (cond-senders (not (eqb (getD b 0 0) 1)) (inl (omega arith))
+    (cond-senders (not (isKind (getD b 1 0))) (inl (omega arith))
+    (or-senders (kindOf (getD b 1 0) .own (drop 2 b)) (own-senders (getD b 1 0) (drop 2 b))
+    (cond-senders (badPayload (getD b 1 0) (n - 2)) (inl (omega arith)) (inl (omega arith)))))))
 
 -- what is not refused has a length that is kept
 pub good-length : (n : ℕ) (b : List ℕ) → refusalTo n b ≡ 0 → (2 ≤ n) × (n ≤ longestBody)
@@ -77,3 +114,27 @@ good-length n b e = go (ltb n 2) (ltb longestBody n) refl refl
     go true t f g = let z : _≡_ {A = ℕ} 1 0 = rw f at e in absurd (omega arith)
     go false true f g = let z : _≡_ {A = ℕ} 2 0 = rw (f, g) at e in absurd (omega arith)
     go false false f g = (ltb-false n 2 f, ltb-false longestBody n g)
+
+-- and a payload with whole items
+pub good-payload : (n : ℕ) (b : List ℕ) → refusalTo n b ≡ 0 → badPayload (getD b 1 0) (n - 2) ≡ false
+unfolding refusalTo
+good-payload n b e =
+    go (ltb n 2) (ltb longestBody n) (eqb (getD b 0 0) 1) (isKind (getD b 1 0)) (kindOf (getD b 1 0) .own (drop 2 b)) (badPayload (getD b 1 0) (n - 2)) e
+  where
+    go : (s t v k : Bool) (m : ℕ) (p : Bool) → cond s 1 (cond t 2 (cond (not v) 3 (cond (not k) 4 (orElse m (cond p 5 0))))) ≡ 0 → p ≡ false
+    go true t v k m p f = absurd (omega arith)
+    go false true v k m p f = absurd (omega arith)
+    go false false false k m p f = absurd (omega arith)
+    go false false true false m p f = absurd (omega arith)
+    go false false true true (suc m) p f = absurd (omega arith)
+    go false false true true zero true f = absurd (omega arith)
+    go false false true true zero false f = refl
+
+-- so its items start within it
+either : (s t : Bool) → s || t ≡ false → s ≡ false
+either true t g = absurd (mathlib.Core.Bool.true≢false g)
+either false t g = refl
+
+pub good-items : (n : ℕ) (b : List ℕ) → refusalTo n b ≡ 0 → itemsFrom (getD b 1 0) < n - 2
+unfolding badPayload
+good-items n b e = leb-false (n - 2) (itemsFrom (getD b 1 0)) (either _ _ (good-payload n b e))

@@ -1,10 +1,13 @@
--- Frames (document 01, "A delivery enters"): length and body, the kinds, and the refusals 1 to 5 in their order. It goes on with the answer
--- to a whole frame in crates/answers/specs/Answers.antt. Definitions only.
-use Prim.Native.Nat.{ℕ, _+_, _*_, _%_, _-_}
+-- Frames (document 01, "A delivery enters"; document 02, A.3): length and body, the kinds, and the sender's refusals in their order. It goes
+-- on with the answer to a whole frame in crates/answers/specs/Answers.antt. Definitions only.
+use Prim.Native.Nat.{ℕ, zero, suc, _+_, _*_, _/_, _%_, _-_}
 use mathlib.Core.List.{List, [], _∷_}
-use mathlib.Core.Bool.{Bool, not, cond, _&&_, _||_}
-use lib.ListN.{length, getD}
+use mathlib.Core.Bool.{Bool, false, not, cond, _&&_, _||_}
+use lib.ListN.{length, getD, drop}
 use lib.Dec.{ltb, leb, eqb}
+use Rattle.rounding.specs.Named.{directionOf}
+use Rattle.rounding.specs.declared.Named.{Named}
+use Rattle.rounding.specs.declared.Named.the-variants.{Known, Unknown}
 
 -- the longest body that is answered and that the state keeps
 abbrev pub longestBody : ℕ
@@ -30,19 +33,61 @@ kept n = leb 2 n && leb n longestBody
 
 -- ---- kinds
 
--- 1 or 2
-unfoldable pub isKind : ℕ → Bool
-isKind kind = eqb kind 1 || eqb kind 2
+-- what belongs to a kind: the bytes that precede its items, its own refusal of a payload or 0, and the bytes of an item
+pub record Kind : Type 0 where
+  pub before : ℕ
+  pub own : List ℕ → ℕ
+  pub item : ℕ
 
--- kind 1 has 8-byte weights, kind 2 has 24-byte triples
-unfoldable pub itemBytes : ℕ → ℕ
-itemBytes kind = cond (eqb kind 1) 8 24
+-- items alone
+abbrev pub plain : ℕ → Kind
+plain size = record { before = 0; own = λ payload. 0; item = size }
+
+-- a direction byte, which is refused by 11 where it names none, and then triples
+abbrev pub undirected : Named → ℕ
+undirected (Known d) = 0
+undirected Unknown = 11
+
+abbrev pub badDirection : List ℕ → ℕ
+badDirection [] = 0
+badDirection (b ∷ payload) = undirected (directionOf b)
+
+abbrev pub directed : Kind
+directed = record { before = 1; own = badDirection; item = 24 }
+
+-- by their numbers from 1 on: 8-byte weights; 24-byte triples; triples in a direction
+abbrev pub kinds : List Kind
+kinds = plain 8 ∷ plain 24 ∷ directed ∷ []
+
+unfoldable pub isKind : ℕ → Bool
+isKind zero = false
+isKind (suc place) = ltb place (length kinds)
+
+-- what belongs to the kind of this number; of a number that is no kind's it is not asked
+unfoldable pub kindOf : ℕ → Kind
+kindOf zero = plain 24
+kindOf (suc place) = getD kinds place (plain 24)
+
+abbrev pub itemsFrom : ℕ → ℕ
+itemsFrom kind = kindOf kind .before
+
+abbrev pub itemBytes : ℕ → ℕ
+itemBytes kind = kindOf kind .item
+
+-- the items of a payload of n bytes
+abbrev pub itemCount : ℕ → ℕ → ℕ
+itemCount kind n = (n - itemsFrom kind) / itemBytes kind
 
 -- ---- the sender's refusals
 
--- a payload of n bytes that is empty or no multiple of the kind's items
+-- in a payload of n bytes nothing comes behind what precedes the items, or no multiple of an item
 unfoldable pub badPayload : ℕ → ℕ → Bool
-badPayload kind n = eqb n 0 || not (eqb (n % itemBytes kind) 0)
+badPayload kind n = leb n (itemsFrom kind) || not (eqb ((n - itemsFrom kind) % itemBytes kind) 0)
+
+-- the first of two numbers that is not 0, or 0
+abbrev pub orElse : ℕ → ℕ → ℕ
+orElse zero n = n
+orElse (suc m) n = suc m
 
 -- the first refusal that a body of n bytes meets, or 0
 unfoldable pub refusalTo : ℕ → List ℕ → ℕ
@@ -51,8 +96,9 @@ refusalTo n body =
     (cond (ltb longestBody n) 2
     (cond (not (eqb (getD body 0 0) 1)) 3
     (cond (not (isKind (getD body 1 0))) 4
+    (orElse (kindOf (getD body 1 0) .own (drop 2 body))
     (cond (badPayload (getD body 1 0) (n - 2)) 5
-    0))))
+    0)))))
 
 -- 00 02 01 and the number
 abbrev pub refusalFrame : ℕ → List ℕ

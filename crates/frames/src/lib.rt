@@ -1,14 +1,17 @@
-// Frames: the payload of a body, the refusals 1 to 5, and the refusal frame and the first bytes of an answer, written into a buffer.
+// Frames: the payload of a body, the sender's refusals, and the refusal frame and the first bytes of an answer, written into a buffer.
 //
-// The contracts are equations with document 01's frames on lists of bytes, in specs/Frame.antt. payload promises its place too
+// The contracts are equations with the documents' frames on lists of bytes, in specs/Frame.antt. payload promises its place too
 // (specs/Part.antt). The results of a payload are in the crate answers: nothing here computes with floats.
 ghost use mathlib.Core.Path.{_≡_};
 ghost use mathlib.Core.List.{_∷_};
-ghost use Prim.Native.Nat.{_/_, _%_, _≤_, _<_};
+ghost use Prim.Native.Nat.{_*_, _/_, _%_, _≤_, _<_};
 ghost use lib.ListN.{length, drop};
-ghost use Rattle.frames.specs.Frame.{itemBytes, isKind, badPayload, refusalTo};
+ghost use Rattle.rounding.specs.Named.{directionOf};
+ghost use Rattle.frames.specs.Frame.{undirected, isKind, kindOf, itemsFrom, itemBytes, itemCount, badPayload, refusalTo};
 ghost use Rattle.frames.specs.Body.{Body};
 ghost use Rattle.frames.specs.Part.{Part, payloadFrom};
+use rounding::BAD_DIRECTION;
+use rounding::Named;
 
 // The longest body that is answered, and not refused by its length.
 pub const LONGEST_BODY: usize = 514;
@@ -18,10 +21,12 @@ pub const ANSWER_ROOM: usize = 516;
 const REFUSAL_BYTES: usize = 4;
 
 const VERSION: u8 = 1;
-// The kind that asks for scores.
+// The kinds: scores, a * b + c to nearest, and in a direction.
 pub const SCORES: u8 = 1;
 
 const FUSED: u8 = 2;
+
+pub const DIRECTED: u8 = 3;
 
 // From a body's third byte to its end; a body under 2 bytes gives its own empty end.
 pub fn payload(body: &[u8]) -> &[u8]
@@ -31,6 +36,13 @@ pub fn payload(body: &[u8]) -> &[u8]
         return &body[body.len()..];
     }
     &body[2..]
+}
+
+// The bytes that precede the items of a kind's payload.
+pub fn items_from(kind: u8) -> usize
+    ensures { λ r. ⌜ (r ≡ itemsFrom kind) × (r ≤ 1) ⌝ }
+{
+    if kind == DIRECTED { 1 } else { 0 }
 }
 
 // The bytes of one item of a kind.
@@ -43,26 +55,59 @@ pub fn item_bytes(kind: u8) -> usize
     24
 }
 
+// The items in a kind's payload of n bytes.
+pub fn item_count(kind: u8, n: usize) -> usize
+    requires { ⌜ itemsFrom kind ≤ n ⌝ }
+    ensures { λ r. ⌜ (r ≡ itemCount kind n) × (8 * r ≤ n) ⌝ }
+{
+    (n - items_from(kind)) / item_bytes(kind)
+}
+
 fn is_kind(kind: u8) -> bool
     ensures { λ r. ⌜ r ≡ isKind kind ⌝ }
 {
-    if kind == SCORES {
-        return true;
+    match kind {
+        SCORES | FUSED | DIRECTED => true,
+        _ => false,
     }
-    kind == FUSED
+}
+
+// The number by which a direction byte is refused, or 0.
+fn bad_direction(byte: u8) -> u8
+    ensures { λ r. ⌜ r ≡ undirected (directionOf byte) ⌝ }
+{
+    let named = rounding::direction_of(byte);
+    match named {
+        Named::Known(_) => 0,
+        Named::Unknown => BAD_DIRECTION,
+    }
+}
+
+// A kind's own refusal of a payload, or 0.
+fn own_refusal(kind: u8, payload: &[u8]) -> u8
+    ensures { λ r. ⌜ r ≡ kindOf kind .own (now (payload .entry)) ⌝ }
+{
+    if kind != DIRECTED {
+        return 0;
+    }
+    if payload.len() == 0 {
+        return 0;
+    }
+    bad_direction(payload[0])
 }
 
 // Whether a payload of n bytes is not what the kind has: at least one item, and whole items.
 fn bad_payload(kind: u8, n: usize) -> bool
     ensures { λ r. ⌜ r ≡ badPayload kind n ⌝ }
 {
-    if n == 0 {
+    let from = items_from(kind);
+    if n <= from {
         return true;
     }
-    n % item_bytes(kind) != 0
+    (n - from) % item_bytes(kind) != 0
 }
 
-// The first of the refusals 1 to 5 that a body of n bytes meets, or 0. Where n is 2 to 514, body is that body.
+// The first of the sender's refusals that a body of n bytes meets, or 0. Where n is 2 to 514, body is that body.
 pub fn refusal_to(n: usize, body: &[u8]) -> u8
     requires { ⌜ Body n (now body) ⌝ }
     ensures { λ r. ⌜ r ≡ refusalTo n (now (body .entry)) ⌝ }
@@ -78,6 +123,10 @@ pub fn refusal_to(n: usize, body: &[u8]) -> u8
     }
     let kind = body[1];
     if is_kind(kind) {
+        let own = own_refusal(kind, payload(body));
+        if own != 0 {
+            return own;
+        }
         if bad_payload(kind, n - 2) {
             return 5;
         }

@@ -29,7 +29,7 @@ fn answer(line: &[u8]) -> Answer {
     let v = numbers.values;
     if count == 4 && check::same(name, b"fused") {
         return Answer::Found {
-            got: multiply_add::fused(v[0], v[1], v[2]),
+            got: multiply_add::fused_nearest(v[0], v[1], v[2]),
             want: v[3],
         };
     }

@@ -1,5 +1,5 @@
-// Fused multiply-add on 64-bit patterns. The public call is total, and its contract is an equation with `fusedBits` of
-// ieee754's specs/Operations.antt. A NaN result is always 0x7ff8000000000000.
+// Fused multiply-add on 64-bit patterns. The public call `fused` is total, and its contract is an equation with `fusedReply` of
+// specs/Fused.antt, over `fusedBits` of ieee754's specs/Operations.antt. A NaN result is always 0x7ff8000000000000.
 //
 // The product of two significands lies in two words, and so does the addend, brought to the same number of digits. The
 // one of the smaller exponent is shifted down to the other's, with a sticky bit; then the sum, or the difference by
@@ -12,6 +12,7 @@ ghost use Rattle.rounding.specs.declared.Direction.{Direction};
 ghost use Rattle.rounding.specs.declared.Direction.the-variants.{Nearest};
 ghost use Rattle.rounding.specs.Rounding.{roundTo};
 ghost use Rattle.ieee754.specs.Operations.{zeroSign, sumTo, plus, exactly, infinite, fusedBits};
+ghost use Rattle.multiply_add.specs.Fused.{fusedReply};
 ghost use Rattle.operands.specs.Machine.{magnitude, Regular, Normal, Ready, productSize, addendSize, Addends, RoundsSum};
 use operands::NAN;
 use operands::Parts;
@@ -20,8 +21,11 @@ use operands::negative;
 use operands::pick_sign;
 use operands::read;
 use operands::unlike_signs;
+use reply::Reply;
+use rounding::BAD_DIRECTION;
 use rounding::Direction;
 use rounding::INFINITY;
+use rounding::Named;
 use rounding::SIGN;
 use rounding::round_normal;
 use rounding::round_wide;
@@ -245,9 +249,8 @@ fn fused_special(dir: Direction, a: u64, b: u64, c: u64) -> u64
     fused_finite(dir, a, b, c)
 }
 
-// a * b + c, rounded once in the direction. `fused_nonzero` has this one caller, so that the compiler puts it here and
-// knows the direction.
-fn fused_in(dir: Direction, a: u64, b: u64, c: u64) -> u64
+// a * b + c, rounded once in the direction.
+pub fn fused_in(dir: Direction, a: u64, b: u64, c: u64) -> u64
     ensures { λ r. ⌜ r ≡ fusedBits dir a b c ⌝ }
 {
     if is_regular(a) {
@@ -265,9 +268,20 @@ fn fused_in(dir: Direction, a: u64, b: u64, c: u64) -> u64
     }
 }
 
-// a * b + c, rounded once to nearest.
-pub fn fused(a: u64, b: u64, c: u64) -> u64
+// The same to nearest.
+pub fn fused_nearest(a: u64, b: u64, c: u64) -> u64
     ensures { λ r. ⌜ r ≡ fusedBits Nearest a b c ⌝ }
 {
     fused_in(Direction::Nearest, a, b, c)
+}
+
+// a * b + c, rounded once in the direction that the byte names; a byte that names none is refused.
+pub fn fused(direction: u8, a: u64, b: u64, c: u64) -> Reply
+    ensures { λ r. ⌜ r ≡ fusedReply direction a b c ⌝ }
+{
+    let named = rounding::direction_of(direction);
+    match named {
+        Named::Known(dir) => Reply::Bits(fused_in(dir, a, b, c)),
+        Named::Unknown => Reply::Refused(BAD_DIRECTION),
+    }
 }

@@ -1,15 +1,35 @@
-// The operations for C, declared in include/weigher.h. Each function has the contract of the one it calls, for every argument.
+// The operations for C, declared in include/weigher.h. Each function has the contract of the one it calls, for every argument. C has no enum
+// with values: a reply of fused in a direction is the number that is returned, 0 where there is a float, and the float behind the pointer
+// (specs/Told.antt of reply).
 ghost use mathlib.Core.Path.{_≡_};
 ghost use Rattle.rounding.specs.declared.Direction.the-variants.{Nearest};
 ghost use Rattle.ieee754.specs.Operations.{fusedBits, roundBits, floorBits, scaleBits};
+ghost use Rattle.reply.specs.Told.{number, result};
+ghost use Rattle.multiply_add.specs.Fused.{fusedReply};
 ghost use Rattle.exp2m1.specs.Score.{scoreBits};
+use reply::Reply;
 
-// a × b + c, rounded once.
+// a × b + c, rounded once to nearest.
 #[no_mangle]
 pub extern "C" fn weigher_fused(a: u64, b: u64, c: u64) -> u64
     ensures { λ r. ⌜ r ≡ fusedBits Nearest a b c ⌝ }
 {
-    multiply_add::fused(a, b, c)
+    multiply_add::fused_nearest(a, b, c)
+}
+
+// The same in the direction that the byte names. Where it names none, the result keeps its content.
+#[no_mangle]
+pub extern "C" fn weigher_fused_in(direction: u8, a: u64, b: u64, c: u64, out: &mut u64) -> u8
+    ensures { λ r. ⌜ (r ≡ number (fusedReply direction a b c)) × (now (out .exit) ≡ result (fusedReply direction a b c) (now (out .entry))) ⌝ }
+{
+    let reply = multiply_add::fused(direction, a, b, c);
+    match reply {
+        Reply::Refused(number) => number,
+        Reply::Bits(bits) => {
+            *out = bits;
+            0
+        }
+    }
 }
 
 // The nearest whole number, a tie to the even one.

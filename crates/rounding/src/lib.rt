@@ -7,6 +7,7 @@ ghost use lib.Count.{leadingZeros};
 ghost use lib.Ieee.{toBits, binary64};
 ghost use Rattle.wide.specs.Words.{value, jammed};
 ghost use Rattle.rounding.specs.Rounding.{whole, roundTo};
+ghost use Rattle.rounding.specs.Named.{directionOf};
 ghost use Rattle.rounding.specs.Machine.{signBit, overflowBits, boundedBits, packed, toNearest, roundsAway, increment, normalBits, Stands, Rounds, RoundsWord};
 use wide::Wide;
 
@@ -18,6 +19,15 @@ pub enum Direction {
     Down,
 }
 
+// What a byte names (document 02, A.3).
+pub enum Named {
+    Known(Direction),
+    Unknown,
+}
+
+// The number that refuses a byte which names no direction.
+pub const BAD_DIRECTION: u8 = 11;
+
 // The pattern of a sign alone.
 pub const SIGN: u64 = 0x8000000000000000;
 // The pattern of +infinity.
@@ -26,6 +36,18 @@ pub const INFINITY: u64 = 0x7ff0000000000000;
 const LARGEST: u64 = 0x7fefffffffffffff;
 // The leading digit of a significand: one step of the exponent field.
 pub const LEADING: u64 = 0x10000000000000;
+
+pub fn direction_of(byte: u8) -> Named
+    ensures { λ r. ⌜ r ≡ directionOf byte ⌝ }
+{
+    match byte {
+        0 => Named::Known(Direction::Nearest),
+        1 => Named::Known(Direction::TowardZero),
+        2 => Named::Known(Direction::Up),
+        3 => Named::Known(Direction::Down),
+        _ => Named::Unknown,
+    }
+}
 
 pub fn sign_bit(neg: bool) -> u64
     ensures { λ r. ⌜ r ≡ signBit neg ⌝ }

@@ -8,6 +8,7 @@ use lib.ListN.{length, drop}
 use lib.Dec.{eqb}
 use borrow.Author.Tests.{ne-eqb}
 use Rattle.frames.specs.Frame.{answerRoom, bodyLength}
+use Rattle.frames.proofs.Refusals.{Senders}
 use Rattle.answers.specs.Answers.{Answer, answerOf}
 use Rattle.answers.proofs.Answers.{answer-length as frame-length, answer-number as frame-number}
 use Rattle.partial_frame.specs.State.{emptyFrame, frameOf}
@@ -24,7 +25,7 @@ answer-length v f = frame-length (bodyLength f) (drop 2 f)
 pub answer-some : (v : View) (f : List ℕ) → eqb (length (answerWith v f .bytes)) 0 ≡ false
 answer-some v f = let h = answer-length v f .0 in ne-eqb (length (answerWith v f .bytes)) 0 (λ z. let w : ⊥ = omega arith in w)
 
-pub answer-number : (v : View) (f : List ℕ) → answerWith v f .number ≤ 5
+pub answer-number : (v : View) (f : List ℕ) → Senders (answerWith v f .number)
 unfolding answerOf
 answer-number v f = frame-number (bodyLength f) (drop 2 f)
 

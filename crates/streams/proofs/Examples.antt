@@ -8,7 +8,7 @@ use lib.ListN.{length, take, drop, replicate}
 use lib.Ieee.{ofBits, toBits}
 use Rattle.words.specs.Bytes.{numberAt, wordBytes}
 use Rattle.exp2m1.specs.Score.{steps, scoreBits}
-use Rattle.frames.specs.Frame.{answerRoom, whole, kept, isKind, itemBytes, badPayload, refusalTo, refusalFrame}
+use Rattle.frames.specs.Frame.{answerRoom, whole, kept, isKind, kindOf, badPayload, refusalTo, refusalFrame}
 use Rattle.answers.specs.Answers.{resultAt, resultsOf, accepted, answerTo, answerOf}
 use Rattle.partial_frame.specs.State.{keptBytes, placesOf, isLeft, bytesIn}
 use Rattle.service.specs.Service.{freshState, isGood, bookOf, closeOf}
@@ -37,7 +37,7 @@ pub whole-case :
     (outputOf freshState (take 5 input ∷ drop 5 input ∷ []) room room ≡ minusOne ++ (refusalFrame 1 ++ refusalFrame 8))
     × ByTakes [] input 12 minusOne freshState
     × (length room < 12 + answerRoom)
-unfolding handOn deliveryOf closeOf isGood bookOf isLeft bytesIn placesOf keptBytes whole kept refusalTo isKind itemBytes badPayload resultAt resultsOf accepted answerTo answerOf scoreBits steps ofBits toBits numberAt wordBytes
+unfolding handOn deliveryOf closeOf isGood bookOf isLeft bytesIn placesOf keptBytes whole kept refusalTo isKind kindOf badPayload resultAt resultsOf accepted answerTo answerOf scoreBits steps ofBits toBits numberAt wordBytes
 whole-case = (refl, streams .takes [] input room refl, streams .stops [] input room refl (omega arith))
 
 pub large-buffers : AllLarge (whole-case .1 .buffers)

@@ -2,11 +2,11 @@
 use Prim.Native.Nat.{ℕ, _+_, _*_, _-_, _≤_}
 use mathlib.Core.Path.{_≡_, refl, sym, ap, _∙_}
 use mathlib.Core.List.{_++_}
-use native.Mathlib.Nat.{zero-mul, suc-mul}
+use native.Mathlib.Nat.{add-zero, add-assoc, zero-mul, suc-mul}
 use native.Mathlib.Numerals.{add-one}
 use native.Mathlib.Omega.{arith}
 use lib.ListN.{length, drop, length-take, length-drop}
-use Rattle.frames.specs.Frame.{itemBytes}
+use Rattle.frames.specs.Frame.{itemsFrom, itemBytes}
 use Rattle.answers.specs.Answers.{resultAt, resultsOf}
 use Rattle.answers.proofs.Results.{item-within, out-length, results-step}
 use Rattle.answers.proofs.write_results.Statement.{statement}
@@ -14,7 +14,7 @@ use Rattle.answers.proofs.write_results.Tie as tie
 
 abbrev Inv-loop : tie.InvT-loop
 Inv-loop kind payload n out₀ size i₀ from₀ at₀ out i from at =
-    (i ≤ n) × (from ≡ i * size) × (at ≡ 8 * i) × (size ≡ itemBytes kind) × (n * size ≤ length payload) × (8 * n ≤ length out₀)
+    (i ≤ n) × (from ≡ itemsFrom kind + i * size) × (at ≡ 8 * i) × (size ≡ itemBytes kind) × (itemsFrom kind + n * size ≤ length payload) × (8 * n ≤ length out₀)
     × (out ≡ resultsOf kind i payload ++ drop (8 * i) out₀)
 
 abbrev μ-loop : tie.MeasureT-loop
@@ -23,15 +23,19 @@ abbrev μ-loop : tie.MeasureT-loop
 item-bytes-requires : tie.Need-item-bytes-requires Inv-loop μ-loop
 item-bytes-requires c κs = tt
 
+items-from-requires : tie.Need-items-from-requires Inv-loop μ-loop
+items-from-requires c κs = tt
+
 loop-holds : tie.Need-loop-holds Inv-loop μ-loop
 unfolding resultsOf
 loop-holds c =
-    let s = c .before .before .before in (
+    let s = c .before .before .before .before in
+    let e = c .before .item-bytes .ensures .0 in (
       omega arith,
-      sym (zero-mul (c .item-bytes .result)),
+      c .items-from .ensures .0 ∙ sym (add-zero _) ∙ ap (λ (m : ℕ). itemsFrom (s .args .kind) + m) (sym (zero-mul (c .before .item-bytes .result))),
       refl,
-      c .item-bytes .ensures .0,
-      rw (c .item-bytes .ensures .0) (s .pre .0),
+      e,
+      rw e (s .pre .0),
       s .pre .1,
       refl,
     )
@@ -39,20 +43,21 @@ loop-holds c =
 result-at-requires : tie.Need-result-at-requires Inv-loop μ-loop
 result-at-requires c κs =
     let l = c .before in
-    let r = item-within (l .loop .i) _ (l .before .item-bytes .result) (c .loop-test .taken) (l .loop .inv .4) in
+    let s = l .before .before .before .before .before in
+    let r = item-within (itemsFrom (s .args .kind)) (l .loop .i) _ (l .before .before .item-bytes .result) (c .loop-test .taken) (l .loop .inv .4) in
     omega arith
 
 sub-write-u64 : tie.Need-sub-write-u64 Inv-loop μ-loop
 sub-write-u64 c =
     let l = c .before .before in
-    let s = l .before .before .before .before in
+    let s = l .before .before .before .before .before in
     let h = out-length (s .args .kind) (l .loop .i) (s .args .payload .now) (l .loop .out) (s .args .out .now) (l .loop .inv .6) (omega arith) in
     omega arith
 
 part-write-u64-start : tie.Need-part-write-u64-start Inv-loop μ-loop
 part-write-u64-start c =
     let l = c .before .before in
-    let s = l .before .before .before .before in
+    let s = l .before .before .before .before .before in
     let h = out-length (s .args .kind) (l .loop .i) (s .args .payload .now) (l .loop .out) (s .args .out .now) (l .loop .inv .6) (omega arith) in
     omega arith
 
@@ -62,7 +67,7 @@ part-write-u64-end c = omega arith
 write-u64-requires : tie.Need-write-u64-requires Inv-loop μ-loop
 write-u64-requires c κs =
     let l = c .before .before .before in
-    let s = l .before .before .before .before in
+    let s = l .before .before .before .before .before in
     let h = out-length (s .args .kind) (l .loop .i) (s .args .payload .now) (l .loop .out) (s .args .out .now) (l .loop .inv .6) (omega arith) in
     simp (length-take, length-drop) (omega arith)
 
@@ -72,7 +77,8 @@ add-i c = omega arith
 add-from : tie.Need-add-from Inv-loop μ-loop
 add-from c =
     let l = c .before .before .before .before .before .before in
-    let r = item-within (l .loop .i) _ (l .before .item-bytes .result) (c .before .before .before .before .before .loop-test .taken) (l .loop .inv .4) in
+    let s = l .before .before .before .before .before in
+    let r = item-within (itemsFrom (s .args .kind)) (l .loop .i) _ (l .before .before .item-bytes .result) (c .before .before .before .before .before .loop-test .taken) (l .loop .inv .4) in
     omega arith
 
 add-at : tie.Need-add-at Inv-loop μ-loop
@@ -84,11 +90,12 @@ loop-less c = omega arith
 loop-again : tie.Need-loop-again Inv-loop μ-loop
 loop-again c =
     let l = c .before .before .before .before .before .before in
-    let s = l .before .before .before .before in
-    let size = l .before .item-bytes .result in
-    let place : l .loop .from ≡ l .loop .i * itemBytes (s .args .kind) = l .loop .inv .1 ∙ ap (λ (m : ℕ). l .loop .i * m) (l .loop .inv .3) in (
+    let s = l .before .before .before .before .before in
+    let size = l .before .before .item-bytes .result in
+    let start = itemsFrom (s .args .kind) in
+    let place : l .loop .from ≡ start + l .loop .i * itemBytes (s .args .kind) = l .loop .inv .1 ∙ ap (λ (m : ℕ). start + l .loop .i * m) (l .loop .inv .3) in (
       omega arith,
-      (λ j. l .loop .inv .1 j + size) ∙ sym (suc-mul _ _) ∙ ap (λ (m : ℕ). m * size) (sym (add-one (l .loop .i))),
+      (λ j. l .loop .inv .1 j + size) ∙ add-assoc start (l .loop .i * size) size ∙ ap (λ (m : ℕ). start + m) (sym (suc-mul _ _) ∙ ap (λ (m : ℕ). m * size) (sym (add-one (l .loop .i)))),
       omega arith,
       l .loop .inv .3,
       l .loop .inv .4,
@@ -103,13 +110,13 @@ loop-again c =
 same-length : tie.Need-same-length Inv-loop μ-loop
 same-length c =
     let l = c .before in
-    let s = l .before .before .before .before in
+    let s = l .before .before .before .before .before in
     out-length (s .args .kind) (l .loop .i) (s .args .payload .now) (l .loop .out) (s .args .out .now) (l .loop .inv .6) (omega arith)
 
 returns : tie.Need-returns Inv-loop μ-loop
 returns c =
     let l = c .before in
-    let s = l .before .before .before .before in
+    let s = l .before .before .before .before .before in
     let e : l .loop .i ≡ s .args .n = omega arith in
     rw (← e) (l .loop .inv .6)
 
@@ -120,6 +127,7 @@ write-results-spec =
     Inv-loop
     μ-loop
     item-bytes-requires
+    items-from-requires
     loop-holds
     result-at-requires
     sub-write-u64

@@ -8,8 +8,8 @@ use native.Mathlib.Omega.{arith}
 use lib.Count.{leadingZeros}
 use borrow.Author.Needs.{needs}
 use Rattle.rounding.proofs.Leading.{Leads, leads}
-use Rattle.constant.specs.declared.Reply.{Reply}
-use Rattle.constant.specs.declared.Reply.the-variants.{Refused}
+use Rattle.reply.specs.declared.Reply.{Reply}
+use Rattle.reply.specs.declared.Reply.the-variants.{Refused}
 use Rattle.constant.specs.Machine.{wholeBits, RepliesBits}
 use Rattle.constant.proofs.Word.{word-bits, word-large, word-small}
 use Rattle.constant.proofs.exact_bits.Statement.{statement}

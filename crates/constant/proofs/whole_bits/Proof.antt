@@ -10,7 +10,7 @@ use borrow.Author.Tests.{eq-eqb, ne-eqb}
 use Rattle.rounding.specs.Machine.{signBit}
 use Rattle.rounding.proofs.Increment.{one-shl, one-shl-pos}
 use Rattle.rounding.proofs.Pattern.{sign-le}
-use Rattle.constant.specs.declared.Reply.the-variants.{Refused, Bits}
+use Rattle.reply.specs.declared.Reply.the-variants.{Refused, Bits}
 use Rattle.constant.specs.Machine.{wholeBits}
 use Rattle.constant.proofs.whole_bits.Statement.{statement}
 use Rattle.constant.proofs.whole_bits.Tie as tie

@@ -1,15 +1,8 @@
 -- `constant_c::weigher_constant` meets its contract. Assumes nothing.
-use Prim.Native.Nat.{ℕ}
-use mathlib.Core.Path.{_≡_, refl, sym, ap, _∙_}
 use borrow.Author.Needs.{needs}
-use Rattle.constant.specs.declared.Reply.{Reply}
-use Rattle.constant_c.specs.Told.{number, result}
+use Rattle.reply.proofs.Told.{told}
 use Rattle.constant_c.proofs.weigher_constant.Statement.{statement}
 use Rattle.constant_c.proofs.weigher_constant.Tie as tie
-
--- what is told of the reply that is known is told of the definition's
-told : (old : ℕ) {reply known given : Reply} → reply ≡ given → reply ≡ known → (number known ≡ number given) × (result known old ≡ result given old)
-told old e k = (ap number (sym k ∙ e), ap (λ (r : Reply). result r old) (sym k ∙ e))
 
 constant-requires : tie.Need-constant-requires
 constant-requires c κs = search needs

@@ -36,8 +36,8 @@ fused-small-requires c κs =
     let f = l .before .before .before in
     at-fields Small (f .before .before .field .ensures) (f .before .field2 .ensures) (f .field3 .ensures) (l .is-small .ensures (c .if2 .taken))
 
-fused-requires : tie.Need-fused-requires
-fused-requires c κs = search needs
+fused-nearest-requires : tie.Need-fused-nearest-requires
+fused-nearest-requires c κs = search needs
 
 returns : tie.Need-returns
 returns c = search needs
@@ -59,7 +59,7 @@ fused-spec =
     fused-near-requires
     is-small-requires
     fused-small-requires
-    fused-requires
+    fused-nearest-requires
     returns
     returns-2
     returns-3)

@@ -1,17 +1,27 @@
 -- `frames::bad_payload` meets its contract. Assumes nothing.
-use Prim.Native.Nat.{ℕ, _%_}
-use mathlib.Core.Path.{refl, ap}
+use Prim.Native.Nat.{ℕ, _-_, _%_}
+use mathlib.Core.Path.{refl, sym, _∙_}
 use mathlib.Core.Bool.{not}
 use lib.Dec.{eqb}
-use borrow.Author.Tests.{eq-eqb, ne-eqb}
-use Rattle.frames.specs.Frame.{badPayload}
+use borrow.Author.Tests.{le-leb, lt-leb}
+use native.Mathlib.Omega.{arith}
+use Rattle.frames.specs.Frame.{badPayload, itemsFrom}
 use borrow.Author.Needs.{needs}
 use Rattle.frames.proofs.bad_payload.Statement.{statement}
 use Rattle.frames.proofs.bad_payload.Tie as tie
 
+items-from-requires : tie.Need-items-from-requires
+items-from-requires c κs = search needs
+
 returns : tie.Need-returns
 unfolding badPayload
-returns c = rw (eq-eqb _ _ (c .if1 .taken)) refl
+returns c =
+    let s = c .before .before in
+    let e = c .before .items-from .ensures .0 in
+    rw (le-leb (s .args .n) (itemsFrom (s .args .kind)) (omega arith)) refl
+
+sub-result : tie.Need-sub-result
+sub-result c = search needs
 
 item-bytes-requires : tie.Need-item-bytes-requires
 item-bytes-requires c κs = search needs
@@ -21,7 +31,10 @@ rem-result c = search needs
 
 returns-2 : tie.Need-returns-2
 unfolding badPayload
-returns-2 c = rw (ne-eqb _ _ (c .before .if1 .left)) (ap (λ (m : ℕ). not (eqb (c .before .before .args .n % m) 0)) (c .item-bytes .ensures .0))
+returns-2 c =
+    let s = c .before .before .before in
+    let e = c .before .before .items-from .ensures .0 in
+    rw (lt-leb (s .args .n) (itemsFrom (s .args .kind)) (omega arith)) (λ i. not (eqb ((s .args .n - e i) % (c .item-bytes .ensures .0 i)) 0))
 
 pub bad-payload-spec : {M : Type 1} → statement M
-bad-payload-spec = tie.close (tie.spec returns item-bytes-requires rem-result returns-2)
+bad-payload-spec = tie.close (tie.spec items-from-requires returns sub-result item-bytes-requires rem-result returns-2)

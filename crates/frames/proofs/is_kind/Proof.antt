@@ -1,17 +1,18 @@
 -- `frames::is_kind` meets its contract. Assumes nothing.
-use mathlib.Core.Path.{refl}
-use borrow.Author.Tests.{eq-eqb, ne-eqb}
-use Rattle.frames.specs.Frame.{isKind}
+use mathlib.Core.Path.{sym}
+use native.Mathlib.Omega.{arith}
+use Rattle.frames.proofs.Items.{some-kind, no-kind}
 use Rattle.frames.proofs.is_kind.Statement.{statement}
 use Rattle.frames.proofs.is_kind.Tie as tie
 
 returns : tie.Need-returns
-unfolding isKind
-returns c = rw (eq-eqb _ _ (c .if1 .taken)) refl
+returns c = sym (some-kind (c .before .before .args .kind) (omega arith) (omega arith))
 
 returns-2 : tie.Need-returns-2
-unfolding isKind
-returns-2 c = rw (ne-eqb _ _ (c .if1 .left)) refl
+returns-2 c = sym (no-kind (c .before .args .kind) (λ l h. omega arith))
+
+returns-3 : tie.Need-returns-3
+returns-3 c = sym (no-kind (c .before .before .args .kind) (λ l h. omega arith))
 
 pub is-kind-spec : {M : Type 1} → statement M
-is-kind-spec = tie.close (tie.spec returns returns-2)
+is-kind-spec = tie.close (tie.spec returns returns-2 returns-3)

@@ -1,7 +1,12 @@
 -- `frames::refusal_to` meets its contract: each return has what the tests before it left. Assumes nothing.
-use mathlib.Core.Path.{sym, _∙_}
+use mathlib.Core.Path.{sym, ap, _∙_}
+use mathlib.Core.List.{List}
+use Prim.Native.Nat.{ℕ}
 use native.Mathlib.Omega.{arith}
-use Rattle.frames.proofs.Refusals.{too-short, too-long, body-length, bad-version, bad-kind, bad-payload, no-refusal}
+use lib.ListN.{getD}
+use Rattle.frames.specs.Frame.{kindOf}
+use Rattle.frames.proofs.Contents.{payload-contents}
+use Rattle.frames.proofs.Refusals.{too-short, too-long, body-length, bad-version, bad-kind, own-refusal, bad-payload, no-refusal}
 use borrow.Author.Needs.{needs}
 use Rattle.frames.proofs.refusal_to.Statement.{statement}
 use Rattle.frames.proofs.refusal_to.Tie as tie
@@ -32,25 +37,46 @@ shared-slice-read-kind c =
 is-kind-requires : tie.Need-is-kind-requires
 is-kind-requires c κs = search needs
 
-bad-payload-requires : tie.Need-bad-payload-requires
-bad-payload-requires c κs = search needs
+payload-requires : tie.Need-payload-requires
+payload-requires c κs = search needs
+
+own-refusal-requires : tie.Need-own-refusal-requires
+own-refusal-requires c κs = search needs
 
 returns-4 : tie.Need-returns-4
 returns-4 c =
-    let s = c .before .before .before .before .before .before .before .before .before .before in
+    let k = c .before .before .before in
+    let s = k .before .before .before .before .before .before .before .before in
     sym
-    (bad-payload (s .args .n) (s .args .body .now) (omega arith) (omega arith) (omega arith) (sym (c .before .before .before .is-kind .ensures) ∙ c .before .before .if4 .taken)
-    (sym (c .before .bad-payload .ensures) ∙ c .if5 .taken))
+    (own-refusal (s .args .n) (s .args .body .now) (omega arith) (omega arith) (omega arith) (sym (k .before .is-kind .ensures) ∙ k .if4 .taken)
+    (c .before .own-refusal .ensures ∙ ap (λ (p : List ℕ). kindOf (getD (s .args .body .now) 1 0) .own p) (payload-contents _ _ (c .before .before .payload .ensures)))
+    (c .if5 .taken))
+
+bad-payload-requires : tie.Need-bad-payload-requires
+bad-payload-requires c κs = search needs
 
 returns-5 : tie.Need-returns-5
 returns-5 c =
-    let s = c .before .before .before .before .before .before .before .before .before .before in
+    let o = c .before .before in
+    let k = o .before .before .before in
+    let s = k .before .before .before .before .before .before .before .before in
     sym
-    (no-refusal (s .args .n) (s .args .body .now) (omega arith) (omega arith) (omega arith) (sym (c .before .before .before .is-kind .ensures) ∙ c .before .before .if4 .taken)
-    (sym (c .before .bad-payload .ensures) ∙ c .if5 .left))
+    (bad-payload (s .args .n) (s .args .body .now) (omega arith) (omega arith) (omega arith) (sym (k .before .is-kind .ensures) ∙ k .if4 .taken)
+    (ap (λ (p : List ℕ). kindOf (getD (s .args .body .now) 1 0) .own p) (sym (payload-contents _ _ (o .before .before .payload .ensures))) ∙ sym (o .before .own-refusal .ensures) ∙ o .if5 .left)
+    (sym (c .before .bad-payload .ensures) ∙ c .if6 .taken))
 
 returns-6 : tie.Need-returns-6
 returns-6 c =
+    let o = c .before .before in
+    let k = o .before .before .before in
+    let s = k .before .before .before .before .before .before .before .before in
+    sym
+    (no-refusal (s .args .n) (s .args .body .now) (omega arith) (omega arith) (omega arith) (sym (k .before .is-kind .ensures) ∙ k .if4 .taken)
+    (ap (λ (p : List ℕ). kindOf (getD (s .args .body .now) 1 0) .own p) (sym (payload-contents _ _ (o .before .before .payload .ensures))) ∙ sym (o .before .own-refusal .ensures) ∙ o .if5 .left)
+    (sym (c .before .bad-payload .ensures) ∙ c .if6 .left))
+
+returns-7 : tie.Need-returns-7
+returns-7 c =
     let s = c .before .before .before .before .before .before .before .before in
     sym (bad-kind (s .args .n) (s .args .body .now) (omega arith) (omega arith) (omega arith) (sym (c .before .is-kind .ensures) ∙ c .if4 .left))
 
@@ -64,7 +90,10 @@ refusal-to-spec =
     returns-3
     shared-slice-read-kind
     is-kind-requires
-    bad-payload-requires
+    payload-requires
+    own-refusal-requires
     returns-4
+    bad-payload-requires
     returns-5
-    returns-6)
+    returns-6
+    returns-7)
