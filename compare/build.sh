@@ -3,7 +3,7 @@
 #     compare/build.sh [SOURCE]
 # SOURCE is the folder of the Rust source, ../shared/docs/src where none is given. Where it is there, the Rust exp2m1 is built
 # from it unchanged. musl's software fma is linked under another name where Debian's package musl-dev is installed, and MPFR where
-# libmpfr-dev is.
+# libmpfr-dev is. directed.c is compiled by cc, with which rustc links.
 set -eu
 out=target/compare
 source=${1:-../shared/docs/src}
@@ -25,6 +25,11 @@ if [ -f "$musl" ]; then
         set -- --cfg musl_fma
     fi
 fi
+
+warnings='-pedantic -Wall -Wextra -Werror -Wno-unknown-pragmas'
+cc -std=c11 -O2 -frounding-math $warnings -c -o "$out/directed.o" compare/directed.c
+rm -f "$out/libdirected.a"
+ar rcs "$out/libdirected.a" "$out/directed.o"
 
 compile() {
     rustc --edition 2024 -O -D warnings --check-cfg 'cfg(musl_fma, exp2m1, mpfr)' -L "$out" "$@"

@@ -1,5 +1,5 @@
-//! The functions of C: those of include/weigher.h, the fma that the score calls, the platform's ldexp, ldexpf, strtod and %a, and musl's
-//! fma where it is linked.
+//! The functions of C: those of include/weigher.h, the fma that the score calls, the platform's fma in each direction, ldexp, ldexpf,
+//! strtod and %a, and musl's fma where it is linked.
 //!
 //! Nothing checks these declarations against the C side. Those that take and return plain numbers are safe to call; those that are lent
 //! bytes, as a pointer and a length or with a 0 behind them, have a function over slices or strings here.
@@ -55,9 +55,34 @@ pub struct Screened {
     pub number: usize,
 }
 
+/// The directions of request A.3, in the order of their bytes.
+#[repr(u8)]
+#[derive(Clone, Copy, PartialEq, Eq)]
+pub enum Direction {
+    Nearest,
+    TowardZero,
+    Up,
+    Down,
+}
+
+impl Direction {
+    pub const ALL: [Direction; 4] = [
+        Direction::Nearest,
+        Direction::TowardZero,
+        Direction::Up,
+        Direction::Down,
+    ];
+
+    /// The direction of a byte up to 3.
+    pub fn of(byte: u8) -> Option<Direction> {
+        Direction::ALL.get(usize::from(byte)).copied()
+    }
+}
+
 #[link(name = "weigher", kind = "static")]
 unsafe extern "C" {
     pub safe fn weigher_fused(a: u64, b: u64, c: u64) -> u64;
+    fn weigher_fused_in(direction: u8, a: u64, b: u64, c: u64, result: *mut u64) -> u8;
     pub safe fn weigher_round(x: u64) -> u64;
     pub safe fn weigher_floor(x: u64) -> u64;
     pub safe fn weigher_scale(x: u64, n: i32) -> u64;
@@ -131,9 +156,32 @@ pub fn constant(text: &[u8], result: &mut u64) -> u8 {
     unsafe { weigher_constant(text.as_ptr(), text.len(), result) }
 }
 
+/// The refusal's number, or 0 and the result is written.
+pub fn fused_in(direction: u8, a: u64, b: u64, c: u64, result: &mut u64) -> u8 {
+    // SAFETY: the result is lent to this call alone.
+    unsafe { weigher_fused_in(direction, a, b, c, result) }
+}
+
 #[link(name = "fast_fused_c", kind = "static")]
 unsafe extern "C" {
     pub safe fn fast_fused(a: u64, b: u64, c: u64) -> u64;
+}
+
+#[link(name = "directed", kind = "static")]
+unsafe extern "C" {
+    fn directed_fmas(
+        direction: Direction,
+        operands: *const [f64; 3],
+        results: *mut f64,
+        count: usize,
+    );
+}
+
+/// Writes the machine's fma of each three operands in a direction.
+pub fn fmas_in(direction: Direction, operands: &[[f64; 3]], results: &mut [f64]) {
+    let count = operands.len().min(results.len());
+    // SAFETY: both slices have so many places, and directed.c knows every direction.
+    unsafe { directed_fmas(direction, operands.as_ptr(), results.as_mut_ptr(), count) };
 }
 
 #[link(name = "m")]

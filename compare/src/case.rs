@@ -2,12 +2,18 @@
 
 use std::fmt;
 
+use ffi::Direction;
+
 use crate::{machine, rust};
+
+/// What stands for the weigher's answer where it refuses a direction: a NaN that no operation gives.
+const REFUSED: u64 = 0x7fffffffffffffff;
 
 /// An operation with its operands. Floats are bit patterns.
 #[derive(Clone, Copy)]
 pub enum Case {
     Fused(u64, u64, u64),
+    FusedIn(Direction, u64, u64, u64),
     FastFused(u64, u64, u64),
     Round(u64),
     Floor(u64),
@@ -27,6 +33,13 @@ impl Case {
     pub fn weigher(self) -> u64 {
         match self {
             Case::Fused(a, b, c) => ffi::weigher_fused(a, b, c),
+            Case::FusedIn(direction, a, b, c) => {
+                let mut result = REFUSED;
+                match ffi::fused_in(direction as u8, a, b, c, &mut result) {
+                    0 => result,
+                    _ => REFUSED,
+                }
+            }
             Case::FastFused(a, b, c) => ffi::fast_fused(a, b, c),
             Case::Round(x) => ffi::weigher_round(x),
             Case::Floor(x) => ffi::weigher_floor(x),
@@ -39,6 +52,7 @@ impl Case {
     pub fn reference(self) -> u64 {
         match self {
             Case::Fused(a, b, c) | Case::FastFused(a, b, c) => machine::fused(a, b, c),
+            Case::FusedIn(direction, a, b, c) => machine::fused_in(direction, a, b, c),
             Case::Round(x) => machine::round(x),
             Case::Floor(x) => machine::floor(x),
             Case::Scale(x, n) => machine::scale(x, n),
@@ -47,11 +61,25 @@ impl Case {
     }
 }
 
+/// The name of fused in a direction.
+pub fn name_in(direction: Direction) -> &'static str {
+    match direction {
+        Direction::Nearest => "fused_nearest",
+        Direction::TowardZero => "fused_toward_zero",
+        Direction::Up => "fused_up",
+        Direction::Down => "fused_down",
+    }
+}
+
 /// The case as a vector has it, without the answer. n is in two's complement.
 impl fmt::Display for Case {
     fn fmt(&self, f: &mut fmt::Formatter) -> fmt::Result {
         match self {
             Case::Fused(a, b, c) => write!(f, "fused {a:016x} {b:016x} {c:016x}"),
+            Case::FusedIn(direction, a, b, c) => {
+                let name = name_in(*direction);
+                write!(f, "{name} {a:016x} {b:016x} {c:016x}")
+            }
             Case::FastFused(a, b, c) => write!(f, "fast_fused {a:016x} {b:016x} {c:016x}"),
             Case::Round(x) => write!(f, "round {x:016x}"),
             Case::Floor(x) => write!(f, "floor {x:016x}"),

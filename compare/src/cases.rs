@@ -3,7 +3,7 @@
 use crate::case::Case;
 use crate::machine;
 use crate::random::Random;
-use crate::values::{SIGN, assemble, beside, both_signs, float, special};
+use crate::values::{FRACTION, SIGN, assemble, beside, both_signs, float, special};
 
 /// How the cases of an operation are made.
 pub struct Operation {
@@ -63,25 +63,111 @@ const SUMS: [(u64, u64, u64); 9] = [
     (0x7fefffffffffffff, 0x3ff0000000000000, 0x7c8fffffffffffff),
 ];
 
-/// Every three of the special values, and the sums above.
+/// More of them, on which the directions part.
+const DIRECTED_SUMS: [(u64, u64, u64); 7] = [
+    // A quarter, half and three quarters of the least subnormal.
+    (1, 0x3fd0000000000000, 0),
+    (1, 0x3fe0000000000000, 0),
+    (1, 0x3fe8000000000000, 0),
+    // Far less than it, and one with that little beside it.
+    (1, 1, 0),
+    (1, 1, 0x3ff0000000000000),
+    // Half a unit above the largest subnormal, and the least number above the largest finite.
+    (1, 0x3fe0000000000000, 0x000fffffffffffff),
+    (0x7fefffffffffffff, 0x3ff0000000000000, 1),
+];
+
+/// Every three of the special values, and the sums for fused.
 fn fused_edges(specials: &[u64]) -> impl Iterator<Item = (u64, u64, u64)> {
     let specials = both_signs(specials);
+    let mut edges = crossed(&specials, &specials);
+    edges.extend(with_signs(&SUMS));
+    edges.into_iter()
+}
+
+/// Every one of the first values with every two of the others, and all sums.
+pub fn directed_edges(first: &[u64], others: &[u64]) -> Vec<(u64, u64, u64)> {
+    let mut edges = crossed(first, others);
+    edges.extend(with_signs(&SUMS));
+    edges.extend(with_signs(&DIRECTED_SUMS));
+    edges
+}
+
+fn crossed(first: &[u64], others: &[u64]) -> Vec<(u64, u64, u64)> {
     let mut edges = Vec::new();
-    for &a in &specials {
-        for &b in &specials {
-            edges.extend(specials.iter().map(|&c| (a, b, c)));
+    for &a in first {
+        for &b in others {
+            edges.extend(others.iter().map(|&c| (a, b, c)));
         }
     }
-    for (a, b, c) in SUMS {
+    edges
+}
+
+fn with_signs(sums: &[(u64, u64, u64)]) -> Vec<(u64, u64, u64)> {
+    let mut edges = Vec::new();
+    for &(a, b, c) in sums {
         for signs in 0..8 {
             let signed = |x: u64, place: u32| x | (signs >> place & 1) << 63;
             edges.push((signed(a, 0), signed(b, 1), signed(c, 2)));
         }
     }
-    edges.into_iter()
+    edges
 }
 
-fn fused_operands(random: &mut Random) -> (u64, u64, u64) {
+/// Operands for each direction: those of fused, and more whose result vanishes, is zero, or is beyond the largest finite by little.
+pub fn directed_operands(random: &mut Random) -> (u64, u64, u64) {
+    match random.below(12) {
+        0 => vanishing(random),
+        1 => zero_sum(random),
+        2 => past_largest(random),
+        _ => fused_operands(random),
+    }
+}
+
+/// A product at the least subnormals or anywhere below, half of the time of few bits, and a zero or the least subnormal.
+fn vanishing(random: &mut Random) -> (u64, u64, u64) {
+    let near = random.between(-1080, -1060);
+    let far = random.between(-2148, -1074);
+    let exponent = random.pick(&[near, far]);
+    let (first, second) = split(random, exponent);
+    let addend = random.pick(&[0, 0, 1]) | random.word() & SIGN;
+    if random.below(2) == 0 {
+        return (float(random, first), float(random, second), addend);
+    }
+    let few = random.below(32) << 47;
+    (
+        assemble(random, first, few),
+        assemble(random, second, 0),
+        addend,
+    )
+}
+
+/// Factors of 26 bits, one of them zero in a quarter of the cases, and their product with the other sign.
+fn zero_sum(random: &mut Random) -> (u64, u64, u64) {
+    let exponent = random.between(-960, 1020);
+    let (first, second) = split(random, exponent);
+    let mut bits = || random.below(1 << 25) << 27;
+    let (f, g) = (bits(), bits());
+    let (mut a, b) = (assemble(random, first, f), assemble(random, second, g));
+    if random.below(4) == 0 {
+        a &= SIGN;
+    }
+    let product = f64::from_bits(a) * f64::from_bits(b);
+    (a, b, (-product).to_bits())
+}
+
+/// The largest finite as a product, and an addend of up to four units in its last place.
+fn past_largest(random: &mut Random) -> (u64, u64, u64) {
+    let first = random.between(0, 1023);
+    let addend = random.between(900, 972);
+    (
+        assemble(random, first, FRACTION),
+        assemble(random, 1023 - first, 0),
+        float(random, addend),
+    )
+}
+
+pub fn fused_operands(random: &mut Random) -> (u64, u64, u64) {
     match random.below(8) {
         0 => (random.word(), random.word(), random.word()),
         1 => near_one(random),

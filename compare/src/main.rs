@@ -1,5 +1,5 @@
-//! The weigher's operations and program beside the machine's, the Rust exp2m1, MPFR and a service written from document 01 alone, and its
-//! reader of constants beside C's: test vectors and streams, comparisons and timings (see README.md).
+//! The weigher's operations and program beside the machine's, the Rust exp2m1, MPFR and a service written from document 01 and request A.3
+//! alone, and its reader of constants beside C's: test vectors and streams, comparisons and timings (see README.md).
 
 mod bench;
 mod book;
@@ -7,6 +7,7 @@ mod calls;
 mod case;
 mod cases;
 mod constants;
+mod directions;
 mod frames;
 mod machine;
 #[cfg(mpfr)]

@@ -7,6 +7,7 @@
 use exp2m1_counted::calls::{COUNTS, Counts};
 
 use crate::score::RANGES;
+use crate::tally::print_count;
 
 #[derive(Clone, Copy)]
 #[cfg_attr(not(exp2m1), allow(dead_code))]
@@ -125,15 +126,6 @@ impl Reach {
         }
         enough
     }
-}
-
-fn print_count(name: &str, count: u64, floor: u64) -> bool {
-    if count < floor {
-        println!("  {name}: {count}, under its floor of {floor}");
-    } else {
-        println!("  {name}: {count}");
-    }
-    count >= floor
 }
 
 /// The end of a range, a power of two where it is small.

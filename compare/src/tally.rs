@@ -57,3 +57,13 @@ impl Tally {
         self.counts.iter().all(|(_, count)| 0 < *count)
     }
 }
+
+/// Prints a count; false where it is under its floor.
+pub fn print_count(name: &str, count: u64, floor: u64) -> bool {
+    if count < floor {
+        println!("  {name}: {count}, under its floor of {floor}");
+    } else {
+        println!("  {name}: {count}");
+    }
+    count >= floor
+}
