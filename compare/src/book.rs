@@ -1,4 +1,5 @@
-//! The plain book of document 01, call by call, and the state for the bytes in it, written from document 01 alone.
+//! The plain book of document 01, call by call, and the state for the bytes in it, written from document 01 alone. Its answers are those of
+//! service.rs.
 
 use ffi::{PartialFrame, State};
 
@@ -47,6 +48,11 @@ impl<'a> Service<'a> {
             book: Book::of(&state),
             operations,
         }
+    }
+
+    /// The bytes of the present frame; none where the state is bad.
+    pub fn held(&self) -> &[u8] {
+        self.book.as_ref().map_or(&[], |book| &book.held)
     }
 
     /// Refusal 6, then refusal 7, with state and buffer untouched, or else what the book gives.

@@ -4,7 +4,7 @@ use ffi::State;
 
 use crate::book::{Book, Call, Kind, Reply, Service};
 use crate::random::Random;
-use crate::service::{self, Operations};
+use crate::service::{self, FLOAT, LONGEST_BODY, Operations};
 use crate::source::Source;
 use crate::states::{self, Start};
 use crate::tally::{Mismatches, Tally};
@@ -18,10 +18,14 @@ const SHOWN: usize = 24;
 
 const GOOD_BY_CHANCE: &str = "good by chance";
 
+/// What may come of a frame of version 1 and kind 3 that is not too long.
+const DIRECTED: &str = "nearest|toward zero|up|down|11, direction byte alone|11, more behind it|5, empty|5, direction byte alone|5, no multiple of 24";
+
 /// Where there is no Rust exp2m1 the scores are the weigher's own, and all else is compared.
 const WITHOUT_SOURCE: Operations = Operations {
     score: serve::WEIGHER.score,
     fused: machine::fused,
+    fused_in: machine::fused_in,
 };
 
 /// Runs so many thousand lists of calls, and as many bodies and payloads; false where a call differs or an outcome never came.
@@ -43,6 +47,7 @@ struct Lists {
     close: Tally,
     hand_on: Tally,
     handed_on: Tally,
+    directed: Tally,
 }
 
 impl Lists {
@@ -64,13 +69,14 @@ impl Lists {
             operations,
             mismatches,
             states: Tally::new("lists, by the state at the start", &names.join("|")),
-            take: Tally::new("take", "unfinished|answered|1|2|3|4|5|6|6 before 7|7"),
+            take: Tally::new("take", "unfinished|answered|1|2|3|4|11|5|6|6 before 7|7"),
             close: Tally::new("close", "nothing|8|6|6 before 7|7"),
             hand_on: Tally::new(
                 "hand_on",
                 "no answer|one answer|many answers|no room for more|6|6 before 7|7",
             ),
-            handed_on: Tally::new("answers of hand_on, by their code", "0|1|2|3|4|5"),
+            handed_on: Tally::new("answers of hand_on, by their code", "0|1|2|3|4|11|5"),
+            directed: Tally::new("frames of kind 3, by their payload", DIRECTED),
         }
     }
 
@@ -91,9 +97,12 @@ impl Lists {
         let mut source = Source::new(rest, &mut self.random);
         for number in 1..=self.random.between(1, CALLS) {
             let missing = service.book.as_ref().map_or(0, Book::missing);
+            let mut bytes = service.held().to_vec();
             let call = source.call(missing, &mut self.random);
             let want = service.call(&call);
             self.tally(&call, &want, bad);
+            bytes.extend(&call.piece[..want.used]);
+            self.tally_directed(&bytes);
             let got = weigher(state, &call);
             let differences = differences(&got, &want);
             if !differences.is_empty() {
@@ -131,6 +140,18 @@ impl Lists {
         }
     }
 
+    /// The frames of kind 3 among the bytes that were held before a call and those that it moved.
+    fn tally_directed(&mut self, mut bytes: &[u8]) {
+        while let Some((body, rest)) = service::first_frame(bytes) {
+            if let [1, 3, payload @ ..] = body
+                && body.len() <= LONGEST_BODY
+            {
+                self.directed.count(directed_outcome(payload));
+            }
+            bytes = rest;
+        }
+    }
+
     fn print(&self) -> bool {
         let tallies = [
             &self.states,
@@ -138,9 +159,24 @@ impl Lists {
             &self.close,
             &self.hand_on,
             &self.handed_on,
+            &self.directed,
         ];
         let reached = tallies.map(Tally::print);
         self.mismatches.print() && !reached.contains(&false)
+    }
+}
+
+fn directed_outcome(payload: &[u8]) -> &'static str {
+    match payload {
+        [] => "5, empty",
+        [4..=u8::MAX] => "11, direction byte alone",
+        [4..=u8::MAX, ..] => "11, more behind it",
+        [_] => "5, direction byte alone",
+        [_, triples @ ..] if !triples.len().is_multiple_of(3 * FLOAT) => "5, no multiple of 24",
+        [0, ..] => "nearest",
+        [1, ..] => "toward zero",
+        [2, ..] => "up",
+        [3, ..] => "down",
     }
 }
 

@@ -1,98 +1,154 @@
 //! Frames for the service: at the bounds of each refusal, and random ones.
 
-use crate::case::Case;
-use crate::cases::FUSED;
+use crate::cases::{directed_operands, fused_operands};
 use crate::random::Random;
 use crate::score;
 use crate::service::{FLOAT, LONGEST_BODY};
 
-/// What a frame announces: the length of its body, its version and its kind.
+/// What a frame announces: the length of its body and the body's first bytes, which are the version, the kind and, of kind 3, the direction.
 #[derive(Clone, Copy)]
-struct Header(usize, u8, u8);
+struct Header(usize, &'static [u8]);
 
-const BOUNDS: [Header; 28] = [
+const BOUNDS: [Header; 44] = [
     // The bench values of document 01: 64 scores, then 2, 5 and 5.
-    Header(514, 1, 1),
-    Header(515, 1, 1),
-    Header(2, 1, 1),
-    Header(10, 1, 2),
+    Header(514, &[1, 1]),
+    Header(515, &[1, 1]),
+    Header(2, &[1, 1]),
+    Header(10, &[1, 2]),
     // 1
-    Header(0, 1, 1),
-    Header(1, 1, 1),
-    Header(1, 0, 0),
+    Header(0, &[1, 1]),
+    Header(1, &[1, 1]),
+    Header(1, &[0, 0]),
     // 2, also where 3 and 4 apply
-    Header(516, 1, 2),
-    Header(515, 0, 0),
-    // 3, also where 4 or 5 applies
-    Header(10, 0, 1),
-    Header(10, 2, 3),
-    Header(2, 255, 1),
-    // 4, also where 5 applies
-    Header(10, 1, 0),
-    Header(10, 1, 3),
-    Header(2, 1, 255),
+    Header(516, &[1, 2]),
+    Header(515, &[0, 0]),
+    // 3, also where 4, 11 or 5 applies
+    Header(10, &[0, 1]),
+    Header(10, &[2, 4]),
+    Header(3, &[2, 3, 4]),
+    Header(2, &[255, 1]),
+    // 4, also where 5 applies, and a direction byte would be refused
+    Header(10, &[1, 0]),
+    Header(10, &[1, 4]),
+    Header(3, &[1, 4, 4]),
+    Header(2, &[1, 255]),
+    // 11, also where 5 applies
+    Header(3, &[1, 3, 4]),
+    Header(6, &[1, 3, 4]),
+    Header(27, &[1, 3, 4]),
+    Header(3, &[1, 3, 255]),
+    Header(27, &[1, 3, 255]),
     // 5
-    Header(2, 1, 2),
-    Header(3, 1, 1),
-    Header(9, 1, 1),
-    Header(11, 1, 1),
-    Header(513, 1, 1),
-    Header(18, 1, 2),
-    Header(25, 1, 2),
-    Header(27, 1, 2),
-    Header(514, 1, 2),
+    Header(2, &[1, 2]),
+    Header(3, &[1, 1]),
+    Header(9, &[1, 1]),
+    Header(11, &[1, 1]),
+    Header(513, &[1, 1]),
+    Header(18, &[1, 2]),
+    Header(25, &[1, 2]),
+    Header(27, &[1, 2]),
+    Header(514, &[1, 2]),
+    // 5 of kind 3: empty, a direction alone, and 8, 23 and 25 bytes behind it
+    Header(2, &[1, 3]),
+    Header(3, &[1, 3, 0]),
+    Header(11, &[1, 3, 1]),
+    Header(26, &[1, 3, 2]),
+    Header(28, &[1, 3, 3]),
     // Answered: one item, and many.
-    Header(10, 1, 1),
-    Header(26, 1, 2),
-    Header(506, 1, 1),
-    Header(506, 1, 2),
+    Header(10, &[1, 1]),
+    Header(26, &[1, 2]),
+    Header(27, &[1, 3, 0]),
+    Header(27, &[1, 3, 1]),
+    Header(27, &[1, 3, 2]),
+    Header(27, &[1, 3, 3]),
+    Header(506, &[1, 1]),
+    Header(506, &[1, 2]),
 ];
+
+/// Those of kind 3 that are long.
+const LONG_BOUNDS: [Header; 8] = [
+    // 2, also where 11 applies
+    Header(515, &[1, 3, 0]),
+    Header(531, &[1, 3, 4]),
+    // 11
+    Header(507, &[1, 3, 4]),
+    // 5
+    Header(506, &[1, 3, 1]),
+    Header(508, &[1, 3, 2]),
+    Header(514, &[1, 3, 3]),
+    // Answered
+    Header(483, &[1, 3, 0]),
+    Header(507, &[1, 3, 2]),
+];
+
+/// The bytes of a triple.
+const TRIPLE: usize = 3 * FLOAT;
 
 /// The longest body that the length bytes can announce.
 const LONGEST: usize = 65_535;
 
-/// A frame for each of the bounds.
+/// A frame for each of the bounds, but for the long ones of kind 3.
 pub fn at_bounds(random: &mut Random) -> Vec<u8> {
-    BOUNDS
-        .iter()
-        .flat_map(|header| frame(*header, random))
-        .collect()
+    of_headers(&BOUNDS, random)
 }
 
-pub fn longest(random: &mut Random) -> Vec<u8> {
-    frame(Header(LONGEST, 1, 1), random)
+/// A frame for each of the long bounds of kind 3, and the longest of all.
+pub fn at_long_bounds(random: &mut Random) -> Vec<u8> {
+    let mut frames = of_headers(&LONG_BOUNDS, random);
+    frames.extend(frame(LONGEST, &[1, 1], random));
+    frames
+}
+
+fn of_headers(headers: &[Header], random: &mut Random) -> Vec<u8> {
+    headers
+        .iter()
+        .flat_map(|Header(length, front)| frame(*length, front, random))
+        .collect()
 }
 
 /// The longest frame that is answered, without its last byte.
 pub fn unfinished(random: &mut Random) -> Vec<u8> {
-    let mut frame = frame(Header(LONGEST_BODY, 1, 1), random);
+    let mut frame = frame(LONGEST_BODY, &[1, 1], random);
     frame.pop();
     frame
 }
 
 /// A frame of any length, version and kind. Most are answered.
 pub fn any(random: &mut Random) -> Vec<u8> {
-    let header = match random.below(10) {
-        0..4 => Header(2 + items(64, random) * FLOAT, 1, 1),
-        4..7 => Header(2 + items(21, random) * 3 * FLOAT, 1, 2),
-        7 => Header(
-            2 + items(64, random) * FLOAT,
-            random.word() as u8,
-            random.below(4) as u8,
-        ),
-        8 => random.pick(&BOUNDS),
+    match random.below(13) {
+        0..4 => frame(2 + items(64, random) * FLOAT, &[1, 1], random),
+        4..7 => frame(2 + items(21, random) * TRIPLE, &[1, 2], random),
+        7..9 => {
+            let front = [1, 3, direction(random)];
+            frame(3 + items(21, random) * TRIPLE, &front, random)
+        }
+        9 => {
+            let front = [random.word() as u8, random.below(5) as u8];
+            frame(2 + items(64, random) * FLOAT, &front, random)
+        }
+        10 => of_headers(&[random.pick(&BOUNDS)], random),
+        11 => of_headers(&[random.pick(&LONG_BOUNDS)], random),
         _ => {
             let near = LONGEST_BODY - 1 + random.below(4) as usize;
             let length = random.pick(&[near, near, near, near, 1000, LONGEST]);
-            Header(length, 1, random.between(1, 2) as u8)
+            let directed = [1, 3, direction(random)];
+            let front = random.pick(&[&[1, 1], &[1, 2], &directed[..]]);
+            frame(length, front, random)
         }
-    };
-    frame(header, random)
+    }
 }
 
-/// A frame of these floats.
-pub fn of_floats(version: u8, kind: u8, floats: &[u64]) -> Vec<u8> {
-    let mut body = vec![version, kind];
+/// One in eight is above 3.
+fn direction(random: &mut Random) -> u8 {
+    match random.below(8) {
+        0 => random.between(4, 255) as u8,
+        _ => random.below(4) as u8,
+    }
+}
+
+/// A frame of these floats behind the body's first bytes.
+pub fn of_floats(front: &[u8], floats: &[u64]) -> Vec<u8> {
+    let mut body = front.to_vec();
     body.extend(floats.iter().flat_map(|x| x.to_be_bytes()));
     with_length(&body)
 }
@@ -101,11 +157,11 @@ fn items(most: i64, random: &mut Random) -> usize {
     random.between(1, most) as usize
 }
 
-/// A frame whose payload is made of random items, the last cut off where the body ends.
-fn frame(Header(length, version, kind): Header, random: &mut Random) -> Vec<u8> {
-    let mut body = vec![version, kind];
+/// A frame whose body goes on with random items, the last cut off where the body ends.
+fn frame(length: usize, front: &[u8], random: &mut Random) -> Vec<u8> {
+    let mut body = front.to_vec();
     while body.len() < length {
-        body.extend(item(kind, random).iter().flat_map(|x| x.to_be_bytes()));
+        body.extend(item(front[1], random).iter().flat_map(|x| x.to_be_bytes()));
     }
     body.truncate(length);
     with_length(&body)
@@ -118,13 +174,12 @@ fn with_length(body: &[u8]) -> Vec<u8> {
     frame
 }
 
-/// The floats of an item: three of kind 2, and a weight of any other.
+/// The floats of an item: three of kinds 2 and 3, and a weight of any other.
 fn item(kind: u8, random: &mut Random) -> Vec<u64> {
-    if kind == 2
-        && let Case::Fused(a, b, c) = (FUSED.random)(random)
-    {
-        vec![a, b, c]
-    } else {
-        vec![score::weight(random)]
-    }
+    let (a, b, c) = match kind {
+        2 => fused_operands(random),
+        3 => directed_operands(random),
+        _ => return vec![score::weight(random)],
+    };
+    vec![a, b, c]
 }

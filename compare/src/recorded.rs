@@ -16,11 +16,11 @@ pub fn write_short_stream() -> io::Result<()> {
     io::stdout().write_all(&stream)
 }
 
-/// The frames at the bounds, the longest one, random ones and an unfinished one.
+/// The frames at all bounds, the longest one, random ones and an unfinished one.
 pub fn write_stream() -> io::Result<()> {
     let mut random = Random::new(7);
     let mut stream = frames::at_bounds(&mut random);
-    stream.extend(frames::longest(&mut random));
+    stream.extend(frames::at_long_bounds(&mut random));
     stream.extend((0..FRAMES).flat_map(|_| frames::any(&mut random)));
     stream.extend(frames::unfinished(&mut random));
     io::stdout().write_all(&stream)

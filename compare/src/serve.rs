@@ -4,12 +4,14 @@ use std::fs::File;
 use std::io::{self, Read, Write};
 use std::os::fd::AsFd;
 
+use crate::case::Case;
 use crate::service::{self, Operations};
 
 /// The weigher's own operations.
 pub const WEIGHER: Operations = Operations {
     score: |x| ffi::weigher_score(x),
     fused: |a, b, c| ffi::weigher_fused(a, b, c),
+    fused_in: |direction, a, b, c| Case::FusedIn(direction, a, b, c).weigher(),
 };
 
 /// Bytes of one read.

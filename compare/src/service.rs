@@ -1,4 +1,7 @@
-//! The framed service, written from document 01 alone, over the machine's fma and the Rust exp2m1, or others in their place.
+//! The framed service, written from document 01 and request A.3 alone, over the machine's fma and the Rust exp2m1, or others in their
+//! place.
+
+use ffi::Direction;
 
 use crate::{machine, rust};
 
@@ -12,11 +15,13 @@ pub const FLOAT: usize = 8;
 pub struct Operations {
     pub score: fn(u64) -> u64,
     pub fused: fn(u64, u64, u64) -> u64,
+    pub fused_in: fn(Direction, u64, u64, u64) -> u64,
 }
 
 pub const REFERENCE: Operations = Operations {
     score: rust::score,
     fused: machine::fused,
+    fused_in: machine::fused_in,
 };
 
 /// The answers to a whole stream and its end.
@@ -79,27 +84,30 @@ fn results(body: &[u8], operations: &Operations) -> Result<Vec<u64>, u8> {
     if *version != 1 {
         return Err(3);
     }
-    let floats = match kind {
-        1 => 1,
-        2 => 3,
-        _ => return Err(4),
-    };
-    let size = floats * FLOAT;
-    if payload.is_empty() || !payload.len().is_multiple_of(size) {
-        return Err(5);
+    match kind {
+        1 => each(payload, 1, |x| (operations.score)(x[0])),
+        2 => each(payload, 3, |x| (operations.fused)(x[0], x[1], x[2])),
+        3 => {
+            // An empty payload has no direction byte.
+            let (byte, triples) = payload.split_first().ok_or(5)?;
+            let direction = Direction::of(*byte).ok_or(11)?;
+            let fused = |x: &[u64]| (operations.fused_in)(direction, x[0], x[1], x[2]);
+            each(triples, 3, fused)
+        }
+        _ => Err(4),
     }
-    Ok(payload
-        .chunks(size)
-        .map(|item| result(&patterns(item), operations))
-        .collect())
 }
 
-/// The result of an item: of a weight, or of a triple.
-fn result(item: &[u64], operations: &Operations) -> u64 {
-    match *item {
-        [a, b, c] => (operations.fused)(a, b, c),
-        _ => (operations.score)(item[0]),
+/// The results of items of so many floats, or 5 where there is none or a part of one.
+fn each(items: &[u8], floats: usize, result: impl Fn(&[u64]) -> u64) -> Result<Vec<u64>, u8> {
+    let size = floats * FLOAT;
+    if items.is_empty() || !items.len().is_multiple_of(size) {
+        return Err(5);
     }
+    Ok(items
+        .chunks(size)
+        .map(|item| result(&patterns(item)))
+        .collect())
 }
 
 pub fn patterns(bytes: &[u8]) -> Vec<u64> {

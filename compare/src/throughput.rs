@@ -33,7 +33,7 @@ struct Kind {
     next: fn(&mut Random) -> Vec<u8>,
 }
 
-const KINDS: [Kind; 6] = [
+const KINDS: [Kind; 7] = [
     Kind {
         name: "scores, 64 to a frame",
         next: |random| scores(random, 64),
@@ -44,7 +44,11 @@ const KINDS: [Kind; 6] = [
     },
     Kind {
         name: "fused, 21 to a frame",
-        next: triples,
+        next: |random| triples(random, &[1, 2]),
+    },
+    Kind {
+        name: "fused up, 21 to a frame",
+        next: |random| triples(random, &[1, 3, 2]),
     },
     Kind {
         name: "random bytes",
@@ -74,7 +78,7 @@ pub fn run(megabytes: u64) -> bool {
 
 fn time_all(megabytes: u64) -> io::Result<bool> {
     let mut programs = programs()?;
-    print!("{:22}", "MB/s, weigher / this");
+    print!("{:24}", "MB/s, weigher / this");
     for program in &programs {
         print!("{:>COLUMN$}", program.name);
     }
@@ -83,7 +87,7 @@ fn time_all(megabytes: u64) -> io::Result<bool> {
     for kind in &KINDS {
         write_stream(kind, megabytes * MEGABYTE)?;
         let times = least_times(&mut programs)?;
-        print!("{:22}", kind.name);
+        print!("{:24}", kind.name);
         for time in &times {
             let speed = format!("{:.1}", megabytes as f64 / time);
             let ratio = times[0] / time;
@@ -224,20 +228,20 @@ fn number(child: &Child, file: &str, name: &str) -> io::Result<u64> {
 fn scores(random: &mut Random, count: usize) -> Vec<u8> {
     let weight = || linear(random, -50.0, 50.0);
     let weights: Vec<u64> = iter::repeat_with(weight).take(count).collect();
-    of_floats(1, 1, &weights)
+    of_floats(&[1, 1], &weights)
 }
 
-fn triples(random: &mut Random) -> Vec<u8> {
+fn triples(random: &mut Random, front: &[u8]) -> Vec<u8> {
     let float = || {
         let exponent = random.between(-40, 40);
         uniform(random, exponent)
     };
     let floats: Vec<u64> = iter::repeat_with(float).take(63).collect();
-    of_floats(1, 2, &floats)
+    of_floats(front, &floats)
 }
 
 /// A frame of one weight with another version or kind, or of kind 2.
 fn refused(random: &mut Random) -> Vec<u8> {
-    let (version, kind) = random.pick(&[(2, 1), (1, 3), (1, 2)]);
-    of_floats(version, kind, &[random.word()])
+    let front = random.pick(&[[2, 1], [1, 4], [1, 2]]);
+    of_floats(&front, &[random.word()])
 }
