@@ -3,12 +3,14 @@
 
 use std::io::{self, BufWriter, Write};
 
+use ffi::Direction;
+
 use crate::case::Case;
-use crate::cases::{FLOOR, FUSED, Operation, ROUND, SCALE};
+use crate::cases::{FLOOR, FUSED, Operation, ROUND, SCALE, directed_edges, directed_operands};
 use crate::random::Random;
 use crate::rust::Function;
 use crate::steps::Reach;
-use crate::values::{CLASSES, SPECIALS};
+use crate::values::{CLASSES, SPECIALS, both_signs};
 use crate::{machine, rust, score};
 
 /// An operation, the special values that its edges are made of, and how many random cases follow.
@@ -18,6 +20,9 @@ const PARTS: [(Operation, &[u64], usize); 4] = [
     (FLOOR, &SPECIALS, 600),
     (SCALE, &CLASSES, 1500),
 ];
+
+/// Random operands of fused in each other direction, behind the edges.
+const DIRECTED: usize = 700;
 
 /// Random weights that follow the edges of the score.
 const WEIGHTS: usize = 15000;
@@ -39,7 +44,22 @@ pub fn write() -> io::Result<()> {
         cases.extend((operation.edges)(specials));
         cases.extend((0..count).map(|_| (operation.random)(&mut random)));
     }
+    cases.extend(directed_cases());
     write_cases(&cases)
+}
+
+/// The same operands in each direction but to nearest, which is fused.
+fn directed_cases() -> Vec<Case> {
+    let mut random = Random::new(13);
+    // The sign of the first factor adds no product that another does not give.
+    let mut operands = directed_edges(&CLASSES, &both_signs(&CLASSES));
+    operands.extend((0..DIRECTED).map(|_| directed_operands(&mut random)));
+    let directions = [Direction::TowardZero, Direction::Up, Direction::Down];
+    let in_direction = |direction| {
+        let operands = operands.iter();
+        operands.map(move |&(a, b, c)| Case::FusedIn(direction, a, b, c))
+    };
+    directions.into_iter().flat_map(in_direction).collect()
 }
 
 /// The scores, by increasing patterns.
