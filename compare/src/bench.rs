@@ -7,6 +7,8 @@ use std::ffi::{CStr, CString};
 use std::hint::black_box;
 use std::time::Instant;
 
+use ffi::Direction;
+
 use crate::random::Random;
 use crate::rust;
 use crate::screen;
@@ -16,6 +18,9 @@ use crate::values::{linear, uniform};
 /// So many that no branch predictor learns them: with 4,096 of them musl's branches were foreseen in part, and it took 17 ns and not 21.
 const OPERANDS: usize = 65536;
 const ROUNDS: usize = 300;
+
+/// Calls of the machine's fma for which a direction is set once.
+const BATCH: usize = 1024;
 
 /// Weights whose calls of fma are timed.
 const WEIGHTS: usize = 4096;
@@ -41,6 +46,7 @@ pub fn run() {
     if cfg!(not(musl_fma)) {
         println!("musl's fma: not installed");
     }
+    fused_up(random);
     score_calls(random);
 
     let operands = prepare(|| one(random, -2, 54));
@@ -54,6 +60,35 @@ pub fn run() {
     score(random);
     constants(random);
     screening(random);
+}
+
+/// fused in a direction. The machine's mode is set once for many calls.
+fn fused_up(random: &mut Random) {
+    let weigher = black_box(ffi::fused_in as fn(u8, u64, u64, u64, &mut u64) -> u8);
+    let machine = black_box(ffi::fmas_in as fn(Direction, &[[f64; 3]], &mut [f64]));
+    let ways: [Way<[f64; 3]>; 2] = [
+        way("weigher", move |operands: &[f64; 3]| {
+            let [a, b, c] = operands.map(f64::to_bits);
+            let mut result = 0;
+            weigher(Direction::Up as u8, a, b, c, &mut result);
+            result
+        }),
+        (
+            "machine",
+            Box::new(move |operands| {
+                let mut results = [0.0; BATCH];
+                for batch in operands.chunks(BATCH) {
+                    machine(Direction::Up, batch, &mut results);
+                }
+                results[0].to_bits()
+            }),
+        ),
+    ];
+    let operands = prepare(|| {
+        let (a, b, c) = three(random, -40, 40);
+        [a, b, c].map(f64::from_bits)
+    });
+    time("fused up, exponents from -40 to 40", &operands, &ways);
 }
 
 /// fma as the score calls it, on the operands of the Rust exp2m1's own calls.
