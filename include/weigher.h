@@ -16,7 +16,8 @@
  *
  * Floats are binary64, passed and returned as their 64-bit patterns. Every
  * pattern is taken, and each NaN result is WEIGHER_NAN. Results are rounded to
- * nearest, ties to even; a constant is never rounded. */
+ * nearest, ties to even, but for those of weigher_fused_in and of frames of
+ * kind 3, which are given a direction; a constant is never rounded. */
 #ifndef WEIGHER_H
 #define WEIGHER_H
 
@@ -45,22 +46,24 @@ extern "C" {
 /* The bytes of a buffer that every answer fits into. */
 #define WEIGHER_ANSWER_ROOM 516
 
-/* The numbers of refusals. 1 to 5 and 8 are answers too, the bytes 00 02 01
+/* The numbers of refusals. 1 to 5, 8 and 11 are answers too, the bytes 00 02 01
  * and the number. 6 and 7 refuse a call and are no answers: they are tried
  * first, in this order, and then the call returns the state as it was, with
  * used and len 0, and the buffer keeps its content. 9 and 10 are for texts of
- * constants alone. */
+ * constants alone. 11 is for frames of kind 3, which are tried for it after 4
+ * and before 5, and for weigher_fused_in. */
 enum {
-    WEIGHER_SHORT_BODY = 1,   /* the body has under 2 bytes */
-    WEIGHER_LONG_BODY = 2,    /* it has over WEIGHER_LONGEST_BODY bytes */
-    WEIGHER_BAD_VERSION = 3,  /* the version is not 1 */
-    WEIGHER_BAD_KIND = 4,     /* the kind is neither 1 nor 2 */
-    WEIGHER_BAD_PAYLOAD = 5,  /* the payload is empty, or no whole items */
-    WEIGHER_SMALL_BUFFER = 6, /* the buffer is under WEIGHER_ANSWER_ROOM */
-    WEIGHER_BAD_STATE = 7,    /* the state is one that no bytes leave */
-    WEIGHER_UNFINISHED = 8,   /* the stream ended inside a frame */
-    WEIGHER_BAD_TEXT = 9,     /* the text has not the form of a constant */
-    WEIGHER_INEXACT = 10      /* its value is not exactly a finite float */
+    WEIGHER_SHORT_BODY = 1,    /* the body has under 2 bytes */
+    WEIGHER_LONG_BODY = 2,     /* it has over WEIGHER_LONGEST_BODY bytes */
+    WEIGHER_BAD_VERSION = 3,   /* the version is not 1 */
+    WEIGHER_BAD_KIND = 4,      /* the kind is not 1, 2 or 3 */
+    WEIGHER_BAD_PAYLOAD = 5,   /* the payload has no items, or a part of one */
+    WEIGHER_SMALL_BUFFER = 6,  /* the buffer is under WEIGHER_ANSWER_ROOM */
+    WEIGHER_BAD_STATE = 7,     /* the state is one that no bytes leave */
+    WEIGHER_UNFINISHED = 8,    /* the stream ended inside a frame */
+    WEIGHER_BAD_TEXT = 9,      /* the text has not the form of a constant */
+    WEIGHER_INEXACT = 10,      /* its value is not exactly a finite float */
+    WEIGHER_BAD_DIRECTION = 11 /* the direction is above WEIGHER_DOWN, 3 */
 };
 
 /* What has come of the present frame. Places of the body that are not filled
@@ -105,7 +108,7 @@ typedef struct weigher_handed_on {
 weigher_state weigher_fresh(void);
 
 /* Uses the piece up to the end of the first frame that ends in it, or all of
- * it, and answers the frame that ended: refusal is then 0 or 1 to 5. Where
+ * it, and answers the frame that ended: refusal is then 0, 1 to 5 or 11. Where
  * none ended, len and refusal are 0. The buffer keeps its content behind the
  * answer. */
 weigher_taken weigher_take(weigher_state state,
@@ -157,8 +160,26 @@ weigher_screened weigher_screening(const uint8_t *payload, size_t payload_len);
 /* 2^x - 1, the score of the weight x. */
 uint64_t weigher_score(uint64_t x);
 
-/* a * b + c, rounded once. */
+/* a * b + c, rounded once to nearest. */
 uint64_t weigher_fused(uint64_t a, uint64_t b, uint64_t c);
+
+/* The directions of rounding. A frame of kind 3 has the same bytes. */
+enum {
+    WEIGHER_NEAREST = 0,     /* the nearest float, a tie to the even one */
+    WEIGHER_TOWARD_ZERO = 1, /* the nearest that is not larger in size */
+    WEIGHER_UP = 2,          /* the least that is not below, or +infinity */
+    WEIGHER_DOWN = 3         /* the greatest that is not above, or -infinity */
+};
+
+/* a * b + c, rounded once in a direction. An exact zero sum of unlike signs is
+ * -0 for WEIGHER_DOWN and +0 for the others. result points to a uint64_t that
+ * may be written.
+ *
+ * Returns 0, and *result is the pattern of the sum. Or returns
+ * WEIGHER_BAD_DIRECTION, where the direction is above 3, and *result keeps its
+ * content. */
+uint8_t weigher_fused_in(uint8_t direction, uint64_t a, uint64_t b, uint64_t c,
+                         uint64_t *result);
 
 /* The nearest whole number, a tie to the even one. A zero result has the
  * sign of x. */
