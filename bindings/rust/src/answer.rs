@@ -35,7 +35,7 @@ impl<'a> Answer<'a> {
         Refusal::from_number(self.bytes[HEAD - 1])
     }
 
-    /// The results in the items' order: scores for kind 1, a × b + c for kind 2.
+    /// The results in the items' order: scores for kind 1, a × b + c for kinds 2 and 3.
     pub fn results(self) -> Result<impl ExactSizeIterator<Item = f64> + Clone, Refusal> {
         Ok(self.patterns()?.map(f64::from_bits))
     }

@@ -1,4 +1,4 @@
-//! The numeric functions and constants as patterns: the bits of an `f64` as a `u64`.
+//! The numeric functions and constants as patterns: the bits of an `f64` as a `u64`. A direction is its byte.
 
 use crate::{Refusal, ffi};
 
@@ -16,13 +16,30 @@ pub fn score(x: u64) -> u64 {
     ffi::weigher_score(x)
 }
 
-/// a × b + c, rounded once.
+/// a × b + c, rounded once to nearest, ties to even.
 ///
 /// ```
 /// assert_eq!(weigher::bits::fused(1, 0x3fe0000000000000, 1), 2); // 2^-1074 × 0.5 + 2^-1074
 /// ```
 pub fn fused(a: u64, b: u64, c: u64) -> u64 {
     ffi::weigher_fused(a, b, c)
+}
+
+/// a × b + c, rounded once in the direction of a byte, as [`weigher::fused_in`](crate::fused_in) rounds it. A byte above 3 is refused by
+/// [`Refusal::BadDirection`].
+///
+/// ```
+/// use weigher::{Direction, Refusal, bits};
+/// let half = 0x3fe0000000000000;
+/// assert_eq!(bits::fused_in(Direction::Down.byte(), 1, half, 0), Ok(0)); // 2^-1074 × 0.5
+/// assert_eq!(bits::fused_in(Direction::Up.byte(), 1, half, 0), Ok(1));
+/// assert_eq!(bits::fused_in(4, 1, half, 0), Err(Refusal::BadDirection));
+/// ```
+pub fn fused_in(direction: u8, a: u64, b: u64, c: u64) -> Result<u64, Refusal> {
+    let mut result = 0;
+    // SAFETY: the result may be written.
+    let number = unsafe { ffi::weigher_fused_in(direction, a, b, c, &mut result) };
+    reply(number, result)
 }
 
 /// The nearest whole number, a tie to the even one. A zero result has the sign of x.
@@ -64,6 +81,11 @@ pub fn constant(text: &[u8]) -> Result<u64, Refusal> {
     let mut result = 0;
     // SAFETY: pointer and length are those of a slice, and the result is apart from it.
     let number = unsafe { ffi::weigher_constant(text.as_ptr(), text.len(), &mut result) };
+    reply(number, result)
+}
+
+/// What a call gave that returns 0 and writes a result, or returns a refusal's number.
+fn reply(number: u8, result: u64) -> Result<u64, Refusal> {
     match number {
         0 => Ok(result),
         _ => Err(Refusal::from_number(number).expect("a refusal's number")),

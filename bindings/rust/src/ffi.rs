@@ -68,6 +68,7 @@ unsafe extern "C" {
 
     pub safe fn weigher_score(x: u64) -> u64;
     pub safe fn weigher_fused(a: u64, b: u64, c: u64) -> u64;
+    pub fn weigher_fused_in(direction: u8, a: u64, b: u64, c: u64, result: *mut u64) -> u8;
     pub safe fn weigher_round(x: u64) -> u64;
     pub safe fn weigher_floor(x: u64) -> u64;
     pub safe fn weigher_scale(x: u64, n: i32) -> u64;

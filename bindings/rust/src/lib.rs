@@ -2,6 +2,7 @@
 
 mod answer;
 pub mod bits;
+mod direction;
 mod ffi;
 mod payload;
 mod refusal;
@@ -9,6 +10,7 @@ mod service;
 mod stream;
 
 pub use answer::{Answer, Answers};
+pub use direction::Direction;
 pub use payload::{Screening, payload, screening};
 pub use refusal::Refusal;
 pub use service::{ANSWER_ROOM, HandedOn, LONGEST_BODY, PartialFrame, State, Taken};
@@ -26,7 +28,7 @@ pub fn score(x: f64) -> f64 {
     f64::from_bits(bits::score(x.to_bits()))
 }
 
-/// a × b + c, rounded once.
+/// a × b + c, rounded once to nearest, ties to even.
 ///
 /// ```
 /// let a = 1.0 + f64::EPSILON;
@@ -36,6 +38,32 @@ pub fn score(x: f64) -> f64 {
 /// ```
 pub fn fused(a: f64, b: f64, c: f64) -> f64 {
     f64::from_bits(bits::fused(a.to_bits(), b.to_bits(), c.to_bits()))
+}
+
+/// a × b + c, rounded once in a direction. An exact zero sum of unlike signs is -0 for [`Direction::Down`] and +0 for the others.
+///
+/// Down and up are the ends of the narrowest interval of floats that holds the exact sum. Here it is a combined score:
+///
+/// ```
+/// use weigher::{Direction, fused, fused_in, score};
+/// let (share, first, second) = (0.3, score(0.5), score(-1.5));
+/// let low = fused_in(Direction::Down, share, first, second);
+/// let high = fused_in(Direction::Up, share, first, second);
+/// let nearest = fused(share, first, second);
+/// assert!(low <= nearest && nearest <= high);
+/// assert_eq!((low, high), (-0.5221825406947979, -0.5221825406947977)); // two floats with none between them
+/// ```
+///
+/// A sum beyond the finite floats is an infinity only where the direction leads there:
+///
+/// ```
+/// use weigher::{Direction, fused_in};
+/// assert_eq!(fused_in(Direction::Up, f64::MAX, 2.0, 0.0), f64::INFINITY);
+/// assert_eq!(fused_in(Direction::TowardZero, f64::MAX, 2.0, 0.0), f64::MAX);
+/// ```
+pub fn fused_in(direction: Direction, a: f64, b: f64, c: f64) -> f64 {
+    let pattern = bits::fused_in(direction.byte(), a.to_bits(), b.to_bits(), c.to_bits());
+    f64::from_bits(pattern.expect("a known direction"))
 }
 
 /// The nearest whole number, a tie to the even one, as `f64::round_ties_even`; `f64::round` takes ties away from zero. A zero result has

@@ -8,7 +8,7 @@ use std::fmt;
 /// assert_eq!(Refusal::BadKind.number(), 4);
 /// assert_eq!(Refusal::from_number(4), Some(Refusal::BadKind));
 /// assert_eq!(Refusal::from_number(0), None);
-/// assert_eq!(Refusal::BadKind.to_string(), "the kind is neither 1 nor 2");
+/// assert_eq!(Refusal::BadKind.to_string(), "the kind is not 1, 2 or 3");
 /// ```
 #[derive(Clone, Copy, Debug, PartialEq, Eq, Hash)]
 #[repr(u8)]
@@ -19,9 +19,9 @@ pub enum Refusal {
     LongBody = 2,
     /// A frame's version is not 1.
     BadVersion = 3,
-    /// A frame's kind is neither 1 nor 2.
+    /// A frame's kind is not 1, 2 or 3.
     BadKind = 4,
-    /// A payload is empty, or is no whole items.
+    /// A payload has no items, or a part of one.
     BadPayload = 5,
     /// A call's buffer has under [`ANSWER_ROOM`](crate::ANSWER_ROOM) bytes.
     SmallBuffer = 6,
@@ -33,6 +33,9 @@ pub enum Refusal {
     BadText = 9,
     /// The value of a constant's text is not exactly a finite float.
     Inexact = 10,
+    /// A direction byte is above 3, in a frame of kind 3 or for [`bits::fused_in`](crate::bits::fused_in). For a frame it is tried before
+    /// [`BadPayload`](Refusal::BadPayload).
+    BadDirection = 11,
 }
 
 impl Refusal {
@@ -52,6 +55,7 @@ impl Refusal {
             8 => Refusal::Unfinished,
             9 => Refusal::BadText,
             10 => Refusal::Inexact,
+            11 => Refusal::BadDirection,
             _ => return None,
         })
     }
@@ -63,13 +67,14 @@ impl fmt::Display for Refusal {
             Refusal::ShortBody => "the body has under 2 bytes",
             Refusal::LongBody => "the body has over 514 bytes",
             Refusal::BadVersion => "the version is not 1",
-            Refusal::BadKind => "the kind is neither 1 nor 2",
-            Refusal::BadPayload => "the payload is empty, or is no whole items",
+            Refusal::BadKind => "the kind is not 1, 2 or 3",
+            Refusal::BadPayload => "the payload has no items, or a part of one",
             Refusal::SmallBuffer => "the buffer has under 516 bytes",
             Refusal::BadState => "the state is one that no bytes leave",
             Refusal::Unfinished => "the stream ended inside a frame",
             Refusal::BadText => "the text has not the form of a constant",
             Refusal::Inexact => "the text's value is not exactly a finite float",
+            Refusal::BadDirection => "the direction byte is above 3",
         })
     }
 }

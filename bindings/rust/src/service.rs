@@ -127,7 +127,7 @@ impl State {
     /// ```
     /// use weigher::{ANSWER_ROOM, Refusal, State};
     /// let mut buffer = [0; 2 * ANSWER_ROOM];
-    /// let handed = State::fresh().hand_on(&[0, 0, 0, 2, 1, 3], &mut buffer)?;
+    /// let handed = State::fresh().hand_on(&[0, 0, 0, 2, 1, 0xff], &mut buffer)?;
     /// let refusals: Vec<_> = handed.answers.filter_map(|answer| answer.refusal()).collect();
     /// assert_eq!(handed.used, 6);
     /// assert_eq!(refusals, [Refusal::ShortBody, Refusal::BadKind]);

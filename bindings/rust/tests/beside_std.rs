@@ -33,8 +33,10 @@ const SIZES: [u64; 24] = [
 
 const RANDOM_CASES: usize = 100_000;
 
+const SIGN: u64 = 1 << 63;
+
 fn special_values() -> impl Iterator<Item = u64> + Clone {
-    SIZES.into_iter().flat_map(|size| [size, size | 1 << 63])
+    SIZES.into_iter().flat_map(|size| [size, size | SIGN])
 }
 
 /// The generator SplitMix64.
@@ -102,18 +104,54 @@ fn compare_fused(a: u64, b: u64, c: u64) {
     );
 }
 
-#[test]
-fn fused_is_mul_add() {
+fn for_each_triple(check: fn(u64, u64, u64)) {
     let values = special_values();
     for a in values.clone() {
         for b in values.clone() {
-            values.clone().for_each(|c| compare_fused(a, b, c));
+            values.clone().for_each(|c| check(a, b, c));
         }
     }
     let mut random = Random(2);
     for _ in 0..RANDOM_CASES {
-        compare_fused(random.pattern(), random.pattern(), random.pattern());
+        check(random.pattern(), random.pattern(), random.pattern());
     }
+}
+
+#[test]
+fn fused_is_mul_add() {
+    for_each_triple(compare_fused);
+}
+
+/// The place of a float among all of them. The two zeros have the same.
+fn place(bits: u64) -> i64 {
+    let size = (bits & !SIGN) as i64;
+    if bits & SIGN == 0 { size } else { -size }
+}
+
+/// The standard library rounds to nearest alone. Down and up are the same float or neighbours, and nearest and toward zero are one of
+/// them; for the sum of the other sign up and down change places.
+fn compare_directions(a: u64, b: u64, c: u64) {
+    let triple = format!("{a:016x} {b:016x} {c:016x}");
+    let [nearest, toward_zero, up, down] = [0, 1, 2, 3].map(|direction| {
+        let sum = bits::fused_in(direction, a, b, c);
+        sum.expect("a known direction")
+    });
+    assert_eq!(nearest, bits::fused(a, b, c), "{triple}");
+    if nearest == bits::NAN {
+        assert_eq!([toward_zero, up, down], [bits::NAN; 3], "{triple}");
+        return;
+    }
+    assert!((0..=1).contains(&(place(up) - place(down))), "{triple}");
+    assert!(nearest == up || nearest == down, "{triple}");
+    let inner = if down & SIGN == 0 { down } else { up };
+    assert_eq!(toward_zero, inner, "{triple}");
+    let turned = bits::fused_in(2, a ^ SIGN, b, c ^ SIGN);
+    assert_eq!(turned, Ok(down ^ SIGN), "{triple}");
+}
+
+#[test]
+fn directions_are_around_the_exact_sum() {
+    for_each_triple(compare_directions);
 }
 
 /// x × 2^n for an n from -1074 to 1023, where 2^n is an f64: a product is rounded once.

@@ -1,9 +1,9 @@
-//! The service, payload and screening: document 01's whole case, cut and recorded streams, and refused calls.
+//! The service, payload and screening: document 01's whole case, cut and recorded streams, the three kinds, and refused calls.
 
 use std::io::{self, Read, Write};
 use weigher::{
-    ANSWER_ROOM, LONGEST_BODY, PartialFrame, Refusal, Screening, State, Stream, payload, screening,
-    serve,
+    ANSWER_ROOM, Direction, LONGEST_BODY, PartialFrame, Refusal, Screening, State, Stream,
+    fused_in, payload, screening, serve,
 };
 
 /// Document 01's whole case: the weight -54, a body of no bytes, and half of a length.
@@ -88,7 +88,7 @@ fn answers<'a>(pieces: impl IntoIterator<Item = &'a [u8]>) -> Vec<u8> {
 /// A frame with results, one of each refusal of a frame, and an unfinished one.
 fn short_stream() -> Vec<u8> {
     let mut bytes = FRAMES[..14].to_vec();
-    bytes.extend([0, 2, 2, 1, 0, 2, 1, 3, 0, 3, 1, 2, 0]);
+    bytes.extend([0, 2, 2, 1, 0, 2, 1, 0xff, 0, 3, 1, 2, 0, 0, 3, 1, 3, 4]);
     bytes.extend([2, 3]);
     bytes.extend([0; LONGEST_BODY + 1]);
     bytes.extend(&FRAMES[..11]);
@@ -99,7 +99,7 @@ fn short_stream() -> Vec<u8> {
 fn every_cut() {
     let bytes = short_stream();
     let whole = answers([&bytes[..]]);
-    let refusals = [1, 3, 4, 5, 2, 8].map(|number| [0, 2, 1, number]);
+    let refusals = [1, 3, 4, 5, 11, 2, 8].map(|number| [0, 2, 1, number]);
     assert_eq!(whole, [ANSWERS[0], refusals.as_flattened()].concat());
     for cut in 0..=bytes.len() {
         let (front, end) = bytes.split_at(cut);
@@ -141,7 +141,7 @@ fn the_recorded_stream() {
 }
 
 #[test]
-fn results_of_both_kinds() -> Result<(), Refusal> {
+fn results_of_kinds_1_and_2() -> Result<(), Refusal> {
     let weights = [2.0, -1.0, 0.0, f64::NEG_INFINITY];
     let mut stream = Stream::new();
     let answer = stream.feed(&frame(1, &weights)).next().unwrap();
@@ -155,16 +155,115 @@ fn results_of_both_kinds() -> Result<(), Refusal> {
 }
 
 fn frame(kind: u8, items: &[f64]) -> Vec<u8> {
-    let length = u16::try_from(2 + 8 * items.len()).unwrap().to_be_bytes();
-    let items = items.iter().flat_map(|x| x.to_be_bytes());
-    length.into_iter().chain([1, kind]).chain(items).collect()
+    frame_of(kind, &bytes_of(items))
+}
+
+fn bytes_of(items: &[f64]) -> Vec<u8> {
+    items.iter().flat_map(|x| x.to_be_bytes()).collect()
+}
+
+fn frame_of(kind: u8, payload: &[u8]) -> Vec<u8> {
+    let length = u16::try_from(2 + payload.len()).unwrap().to_be_bytes();
+    [&length[..], &[1, kind], payload].concat()
+}
+
+/// A frame of kind 3.
+fn directed(direction: u8, rest: &[u8]) -> Vec<u8> {
+    frame_of(3, &[&[direction], rest].concat())
+}
+
+/// A sum between two floats, one beyond the finite ones, a product that vanishes, and an exact zero sum of unlike signs.
+const TRIPLES: [[f64; 3]; 4] = [
+    [-0.1, 0.1, -1.0],
+    [f64::MAX, -2.0, 0.0],
+    [f64::MIN_POSITIVE, f64::MIN_POSITIVE, 0.0],
+    [1.0, 1.0, -1.0],
+];
+
+#[test]
+fn results_of_kind_3() -> Result<(), Refusal> {
+    let (high, low) = (0xbff028f5c28f5c28, 0xbff028f5c28f5c29);
+    let (largest, infinity) = (0xffefffffffffffff, 0xfff0000000000000);
+    for (direction, expected) in [
+        (0, [low, infinity, 0, 0]),
+        (1, [high, largest, 0, 0]),
+        (2, [high, largest, 1, 0]),
+        (3, [low, infinity, 0, 1 << 63]),
+    ] {
+        let mut stream = Stream::new();
+        let bytes = directed(direction, &bytes_of(TRIPLES.as_flattened()));
+        let answer = stream.feed(&bytes).next().unwrap();
+        assert_eq!(answer.refusal(), None, "{direction}");
+        assert!(answer.patterns()?.eq(expected), "{direction}");
+        let sums = TRIPLES.map(|[a, b, c]| {
+            let direction = Direction::from_byte(direction).unwrap();
+            fused_in(direction, a, b, c)
+        });
+        assert!(answer.results()?.eq(sums), "{direction}");
+        assert_eq!(answer.bytes().len(), 4 + 8 * TRIPLES.len());
+    }
+    Ok(())
+}
+
+/// Kind 3 to nearest has the answer of kind 2, up to the 21 triples that a body has room for.
+#[test]
+fn kind_3_to_nearest_is_kind_2() {
+    for n in 1..=21 {
+        let items = bytes_of(TRIPLES.repeat(6)[..n].as_flattened());
+        let both = [directed(0, &items), frame_of(2, &items)];
+        let [three, two] = both.map(|bytes| answers([&bytes[..]]));
+        assert_eq!(three, two, "{n}");
+        assert_eq!(three.len(), 4 + 8 * n);
+    }
+}
+
+/// The frame is refused at its last byte, and leaves the fresh state.
+fn check_refused(frame: &[u8], refusal: Refusal) -> Result<(), Refusal> {
+    let mut state = State::fresh();
+    let mut buffer = [FILL; ANSWER_ROOM];
+    let (last, front) = frame.split_last().unwrap();
+    assert_eq!(state.take(front, &mut buffer)?.answer, None);
+    let answer = state.take(&[*last], &mut buffer)?.answer.unwrap();
+    assert_eq!(answer.refusal(), Some(refusal), "{frame:?}");
+    assert_eq!(answer.results().err(), Some(refusal));
+    assert_eq!(answer.bytes(), [0, 2, 1, refusal.number()]);
+    assert_eq!(state, State::fresh());
+    Ok(())
+}
+
+/// 11 comes before 5, and whatever stands behind the byte; an empty payload has no direction byte.
+#[test]
+fn refusals_of_kind_3() -> Result<(), Refusal> {
+    for direction in 4..=u8::MAX {
+        for n in [0, 3, 23, 24, 48, 511] {
+            check_refused(&directed(direction, &vec![0; n]), Refusal::BadDirection)?;
+        }
+    }
+    check_refused(&frame_of(3, &[]), Refusal::BadPayload)?;
+    for direction in 0..=3 {
+        for n in (0..=511).filter(|n| n % 24 != 0 || *n == 0) {
+            check_refused(&directed(direction, &vec![0; n]), Refusal::BadPayload)?;
+        }
+    }
+    Ok(())
+}
+
+/// 2, 3 and 4 come before 11, and kinds 1 and 2 have no direction byte.
+#[test]
+fn refusals_around_a_direction() -> Result<(), Refusal> {
+    check_refused(&directed(4, &[0; 512]), Refusal::LongBody)?;
+    check_refused(&[0, 3, 2, 3, 4], Refusal::BadVersion)?;
+    check_refused(&[0, 3, 1, 0xff, 4], Refusal::BadKind)?;
+    check_refused(&[0, 3, 1, 0, 4], Refusal::BadKind)?;
+    check_refused(&[0, 3, 1, 1, 4], Refusal::BadPayload)?;
+    check_refused(&[0, 3, 1, 2, 4], Refusal::BadPayload)
 }
 
 #[test]
 fn refusals_and_their_numbers() {
     for number in 0..=u8::MAX {
         let refusal = Refusal::from_number(number);
-        assert_eq!(refusal.is_some(), (1..=10).contains(&number), "{number}");
+        assert_eq!(refusal.is_some(), (1..=11).contains(&number), "{number}");
         assert!(refusal.is_none_or(|refusal| refusal.number() == number));
     }
 }

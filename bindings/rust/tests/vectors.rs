@@ -1,6 +1,7 @@
 //! The functions on the repository's recorded vectors: answers of the Rust exp2m1, of the machine's operations, and for screening of a plain loop.
 
-use weigher::{Refusal, Screening, bits, screening};
+use std::collections::BTreeSet;
+use weigher::{Direction, Refusal, Screening, bits, screening};
 
 const SCORES: &str = include_str!("../../../crates/exp2m1_vectors/stdin");
 const OPERATIONS: &str = include_str!("../../../crates/ieee754_vectors/stdin");
@@ -10,32 +11,61 @@ fn number(word: &str) -> u64 {
     u64::from_str_radix(word, 16).expect("a hexadecimal number")
 }
 
-/// Runs every vector and returns how many there are. A line has a function's name, its operands and the answer in hexadecimal; n of scale is
-/// a number of 32 bits in two's complement.
-fn run(vectors: &str) -> usize {
+fn fused_in(direction: Direction, operands: [&str; 3]) -> u64 {
+    let [a, b, c] = operands.map(number);
+    bits::fused_in(direction.byte(), a, b, c).expect("a known direction")
+}
+
+/// To nearest, by both functions.
+fn fused(operands: [&str; 3]) -> u64 {
+    let [a, b, c] = operands.map(number);
+    let sum = bits::fused(a, b, c);
+    assert_eq!(fused_in(Direction::Nearest, operands), sum, "{operands:?}");
+    sum
+}
+
+/// Runs every vector and returns which functions there are. A line has a function's name, its operands and the answer in hexadecimal; n of
+/// scale is a number of 32 bits in two's complement, and a direction is part of the name.
+fn run(vectors: &str) -> BTreeSet<&str> {
+    let mut functions = BTreeSet::new();
     for line in vectors.lines() {
         let words: Vec<&str> = line.split(' ').collect();
         let (got, answer) = match words[..] {
             ["score", x, answer] => (bits::score(number(x)), answer),
             ["round", x, answer] => (bits::round(number(x)), answer),
             ["floor", x, answer] => (bits::floor(number(x)), answer),
-            ["fused", a, b, c, answer] => (bits::fused(number(a), number(b), number(c)), answer),
+            ["fused", a, b, c, answer] => (fused([a, b, c]), answer),
+            ["fused_toward_zero", a, b, c, answer] => {
+                (fused_in(Direction::TowardZero, [a, b, c]), answer)
+            }
+            ["fused_up", a, b, c, answer] => (fused_in(Direction::Up, [a, b, c]), answer),
+            ["fused_down", a, b, c, answer] => (fused_in(Direction::Down, [a, b, c]), answer),
             ["scale", x, n, answer] => (bits::scale(number(x), number(n) as i32), answer),
             _ => panic!("no vector: {line}"),
         };
         assert_eq!(got, number(answer), "{line}");
+        functions.insert(words[0]);
     }
-    vectors.lines().count()
+    functions
 }
 
 #[test]
 fn scores() {
-    assert_ne!(run(SCORES), 0);
+    assert_eq!(run(SCORES), BTreeSet::from(["score"]));
 }
 
 #[test]
 fn operations() {
-    assert_ne!(run(OPERATIONS), 0);
+    let functions = [
+        "fused",
+        "fused_toward_zero",
+        "fused_up",
+        "fused_down",
+        "round",
+        "floor",
+        "scale",
+    ];
+    assert_eq!(run(OPERATIONS), BTreeSet::from(functions));
 }
 
 fn bytes(digits: &str) -> Vec<u8> {
