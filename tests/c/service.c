@@ -1,6 +1,6 @@
 /* The calls that take bytes across the C interface: the layout of their structs, every byte of a state passed and returned, refused calls,
- * buffers that end where memory does, and NULL for what is empty; and the texts of constants. Says which check failed, and then ends with
- * status 1. */
+ * buffers that end where memory does, and NULL for what is empty; the texts of constants; and the directions of sums, in calls and in
+ * frames. Says which check failed, and then ends with status 1. */
 #define _DEFAULT_SOURCE
 #include <stddef.h>
 #include <stdint.h>
@@ -289,6 +289,192 @@ static void check_constants(void)
     check_long_constants();
 }
 
+/* a * b + c to nearest, toward zero, up and down. */
+static const struct sum {
+    uint64_t operands[3];
+    uint64_t in[4];
+} sums[] = {
+    /* 1/9 + 1 and 1 - 1/9, with 1/3 rounded, of both signs */
+    {{0x3fd5555555555555, 0x3fd5555555555555, 0x3ff0000000000000},
+     {0x3ff1c71c71c71c72, 0x3ff1c71c71c71c71, 0x3ff1c71c71c71c72, 0x3ff1c71c71c71c71}},
+    {{0xbfd5555555555555, 0x3fd5555555555555, 0xbff0000000000000},
+     {0xbff1c71c71c71c72, 0xbff1c71c71c71c71, 0xbff1c71c71c71c71, 0xbff1c71c71c71c72}},
+    {{0xbfd5555555555555, 0x3fd5555555555555, 0x3ff0000000000000},
+     {0x3fec71c71c71c71d, 0x3fec71c71c71c71c, 0x3fec71c71c71c71d, 0x3fec71c71c71c71c}},
+    {{0x3fd5555555555555, 0x3fd5555555555555, 0xbff0000000000000},
+     {0xbfec71c71c71c71d, 0xbfec71c71c71c71c, 0xbfec71c71c71c71c, 0xbfec71c71c71c71d}},
+    /* 2 * 3 + 1 */
+    {{0x4000000000000000, 0x4008000000000000, 0x3ff0000000000000},
+     {0x401c000000000000, 0x401c000000000000, 0x401c000000000000, 0x401c000000000000}},
+    /* ties: 2^-53 behind 1, which is even, and behind 1 + 2^-52, which is odd */
+    {{0x3ca0000000000000, 0x3ff0000000000000, 0x3ff0000000000000},
+     {0x3ff0000000000000, 0x3ff0000000000000, 0x3ff0000000000001, 0x3ff0000000000000}},
+    {{0x3ca0000000000000, 0x3ff0000000000000, 0x3ff0000000000001},
+     {0x3ff0000000000002, 0x3ff0000000000001, 0x3ff0000000000002, 0x3ff0000000000001}},
+    {{0xbca0000000000000, 0x3ff0000000000000, 0xbff0000000000000},
+     {0xbff0000000000000, 0xbff0000000000000, 0xbff0000000000000, 0xbff0000000000001}},
+    {{0xbca0000000000000, 0x3ff0000000000000, 0xbff0000000000001},
+     {0xbff0000000000002, 0xbff0000000000001, 0xbff0000000000001, 0xbff0000000000002}},
+    /* beyond the largest float: twice as large, half of a spacing, a quarter */
+    {{0x7fefffffffffffff, 0x4000000000000000, 0x0000000000000000},
+     {0x7ff0000000000000, 0x7fefffffffffffff, 0x7ff0000000000000, 0x7fefffffffffffff}},
+    {{0xffefffffffffffff, 0x4000000000000000, 0x0000000000000000},
+     {0xfff0000000000000, 0xffefffffffffffff, 0xffefffffffffffff, 0xfff0000000000000}},
+    {{0x7fefffffffffffff, 0x3ff0000000000000, 0x7c90000000000000},
+     {0x7ff0000000000000, 0x7fefffffffffffff, 0x7ff0000000000000, 0x7fefffffffffffff}},
+    {{0x7fefffffffffffff, 0x3ff0000000000000, 0x7c80000000000000},
+     {0x7fefffffffffffff, 0x7fefffffffffffff, 0x7ff0000000000000, 0x7fefffffffffffff}},
+    {{0xffefffffffffffff, 0x3ff0000000000000, 0xfc80000000000000},
+     {0xffefffffffffffff, 0xffefffffffffffff, 0xffefffffffffffff, 0xfff0000000000000}},
+    /* products that vanish, alone and beside 1 and -1 */
+    {{0x0000000000000001, 0x3fe0000000000000, 0x0000000000000000}, {0, 0, 1, 0}},
+    {{0x8000000000000001, 0x3fe0000000000000, 0x0000000000000000},
+     {0x8000000000000000, 0x8000000000000000, 0x8000000000000000, 0x8000000000000001}},
+    {{0x0000000000000001, 0x0000000000000001, 0x3ff0000000000000},
+     {0x3ff0000000000000, 0x3ff0000000000000, 0x3ff0000000000001, 0x3ff0000000000000}},
+    {{0x8000000000000001, 0x0000000000000001, 0x3ff0000000000000},
+     {0x3ff0000000000000, 0x3fefffffffffffff, 0x3ff0000000000000, 0x3fefffffffffffff}},
+    {{0x0000000000000001, 0x0000000000000001, 0xbff0000000000000},
+     {0xbff0000000000000, 0xbfefffffffffffff, 0xbfefffffffffffff, 0xbff0000000000000}},
+    /* half of a spacing behind the largest subnormal float */
+    {{0x0000000000000001, 0x3fe0000000000000, 0x000fffffffffffff},
+     {0x0010000000000000, 0x000fffffffffffff, 0x0010000000000000, 0x000fffffffffffff}},
+    /* exact zero sums: of unlike signs, of two +0 and of two -0 */
+    {{0x3ff0000000000000, 0x3ff0000000000000, 0xbff0000000000000}, {0, 0, 0, 0x8000000000000000}},
+    {{0xbff0000000000000, 0x3ff0000000000000, 0x3ff0000000000000}, {0, 0, 0, 0x8000000000000000}},
+    {{0x0000000000000000, 0x3ff0000000000000, 0x8000000000000000}, {0, 0, 0, 0x8000000000000000}},
+    {{0x8000000000000000, 0x3ff0000000000000, 0x0000000000000000}, {0, 0, 0, 0x8000000000000000}},
+    {{0x0000000000000000, 0x3ff0000000000000, 0x0000000000000000}, {0, 0, 0, 0}},
+    {{0x8000000000000000, 0x3ff0000000000000, 0x8000000000000000},
+     {0x8000000000000000, 0x8000000000000000, 0x8000000000000000, 0x8000000000000000}},
+    /* infinity, and 0 * infinity + a NaN */
+    {{0xfff0000000000000, 0x3ff0000000000000, 0x7fefffffffffffff},
+     {0xfff0000000000000, 0xfff0000000000000, 0xfff0000000000000, 0xfff0000000000000}},
+    {{0x0000000000000000, 0x7ff0000000000000, 0xfff8000000000007}, {WEIGHER_NAN, WEIGHER_NAN, WEIGHER_NAN, WEIGHER_NAN}},
+};
+
+static void put(uint8_t *bytes, uint64_t pattern)
+{
+    for (size_t i = 8; i-- > 0; pattern >>= 8)
+        bytes[i] = (uint8_t)pattern;
+}
+
+/* A frame of kind 3 with a direction byte and one triple, and its answer. */
+enum { DIRECTED = 29, DIRECTED_ANSWER = 12 };
+
+static void put_directed(uint8_t *bytes, uint8_t direction, const uint64_t *operands)
+{
+    static const uint8_t head[] = {0x00, 0x1b, 0x01, 0x03};
+    memcpy(bytes, head, sizeof head);
+    bytes[4] = direction;
+    for (size_t i = 0; i < 3; i++)
+        put(bytes + 5 + 8 * i, operands[i]);
+}
+
+static void put_answer(uint8_t *bytes, uint64_t result)
+{
+    memcpy(bytes, scores, 4);
+    put(bytes + 4, result);
+}
+
+/* The sum of a call, and that of a frame. */
+static void check_sum(const struct sum *sum, uint8_t direction)
+{
+    const uint64_t *operands = sum->operands;
+    uint64_t *result = (uint64_t *)before_end(sizeof *result);
+    CHECK(weigher_fused_in(direction, operands[0], operands[1], operands[2], result) == 0 && *result == sum->in[direction]);
+    uint8_t *piece = before_end(DIRECTED), *buffer = before_end(WEIGHER_ANSWER_ROOM), want[DIRECTED_ANSWER];
+    put_directed(piece, direction, operands);
+    put_answer(want, sum->in[direction]);
+    weigher_taken taken = weigher_take(weigher_fresh(), piece, DIRECTED, buffer, WEIGHER_ANSWER_ROOM);
+    CHECK(taken.used == DIRECTED && taken.len == sizeof want && taken.refusal == 0 && same(taken.state, weigher_fresh()));
+    CHECK(memcmp(buffer, want, sizeof want) == 0 && untouched(buffer + sizeof want, WEIGHER_ANSWER_ROOM - sizeof want));
+}
+
+/* Refused at its last byte by this number, as a frame alone. */
+static void check_refused_frame(const uint8_t *bytes, size_t n, unsigned number)
+{
+    uint8_t buffer[WEIGHER_ANSWER_ROOM];
+    const uint8_t want[] = {0x00, 0x02, 0x01, (uint8_t)number};
+    weigher_taken taken = weigher_take(weigher_fresh(), bytes, n - 1, buffer, sizeof buffer);
+    CHECK(taken.used == n - 1 && taken.len == 0 && taken.refusal == 0);
+    taken = weigher_take(taken.state, bytes + n - 1, 1, buffer, sizeof buffer);
+    CHECK(taken.used == 1 && taken.len == sizeof want && taken.refusal == number && same(taken.state, weigher_fresh()));
+    CHECK(memcmp(buffer, want, sizeof want) == 0);
+}
+
+/* Every byte above 3: the call leaves the result, and frames are refused whatever is behind the byte. */
+static void check_no_directions(void)
+{
+    uint64_t *result = (uint64_t *)before_end(sizeof *result);
+    uint8_t bytes[DIRECTED];
+    for (unsigned direction = 4; direction <= 255; direction++) {
+        CHECK(weigher_fused_in((uint8_t)direction, 1, 2, 3, result) == WEIGHER_BAD_DIRECTION);
+        CHECK(untouched((uint8_t *)result, sizeof *result));
+        put_directed(bytes, (uint8_t)direction, sums[0].operands);
+        check_refused_frame(bytes, DIRECTED, WEIGHER_BAD_DIRECTION);
+        for (size_t behind = 0; behind < 24; behind++) {
+            bytes[1] = (uint8_t)(3 + behind);
+            check_refused_frame(bytes, 5 + behind, WEIGHER_BAD_DIRECTION);
+        }
+    }
+}
+
+/* Known directions with no triple or a part of one behind them, and a payload without a direction. */
+static void check_no_triples(void)
+{
+    static const uint8_t empty[] = {0x00, 0x02, 0x01, 0x03};
+    uint8_t bytes[DIRECTED];
+    check_refused_frame(empty, sizeof empty, WEIGHER_BAD_PAYLOAD);
+    for (unsigned direction = 0; direction <= 3; direction++) {
+        put_directed(bytes, (uint8_t)direction, sums[0].operands);
+        for (size_t behind = 0; behind < 24; behind++) {
+            bytes[1] = (uint8_t)(3 + behind);
+            check_refused_frame(bytes, 5 + behind, WEIGHER_BAD_PAYLOAD);
+        }
+    }
+}
+
+/* Answered and refused frames of kind 3 in one piece. */
+static void check_directions_handed_on(void)
+{
+    static const uint8_t refused[] = {
+        0x00, 0x03, 0x01, 0x03, 0x04,                   /* 11 */
+        0x00, 0x06, 0x01, 0x03, 0x04, 0x00, 0x00, 0x00, /* 11 */
+        0x00, 0x02, 0x01, 0x03,                         /* 5 */
+        0x00, 0x03, 0x01, 0x03, 0x00,                   /* 5 */
+        0x00, 0x03, 0x02, 0x03, 0x04,                   /* 3 */
+        0x00, 0x03, 0x01, 0xff, 0x04,                   /* 4 */
+    };
+    static const uint8_t refusals[] = {0, 2, 1, 11, 0, 2, 1, 11, 0, 2, 1, 5, 0, 2, 1, 5, 0, 2, 1, 3, 0, 2, 1, 4};
+    const size_t len = 4 * DIRECTED + sizeof refused, want_len = 4 * DIRECTED_ANSWER + sizeof refusals;
+    const size_t room = 2 * len + 2 * WEIGHER_ANSWER_ROOM;
+    uint8_t *piece = before_end(len), *want = before_end(want_len), *buffer = before_end(room);
+    for (size_t i = 0; i < 4; i++) {
+        put_directed(piece + i * DIRECTED, (uint8_t)i, sums[0].operands);
+        put_answer(want + i * DIRECTED_ANSWER, sums[0].in[i]);
+    }
+    memcpy(piece + 4 * DIRECTED, refused, sizeof refused);
+    memcpy(want + 4 * DIRECTED_ANSWER, refusals, sizeof refusals);
+    weigher_handed_on handed = weigher_hand_on(weigher_fresh(), piece, len, buffer, room);
+    CHECK(handed.used == len && handed.len == want_len && handed.refusal == 0 && same(handed.state, weigher_fresh()));
+    CHECK(memcmp(buffer, want, want_len) == 0 && untouched(buffer + want_len, room - want_len));
+}
+
+static void check_directions(void)
+{
+    CHECK(WEIGHER_NEAREST == 0 && WEIGHER_TOWARD_ZERO == 1 && WEIGHER_UP == 2 && WEIGHER_DOWN == 3);
+    for (size_t i = 0; i < sizeof sums / sizeof sums[0]; i++) {
+        const uint64_t *operands = sums[i].operands;
+        CHECK(weigher_fused(operands[0], operands[1], operands[2]) == sums[i].in[WEIGHER_NEAREST]);
+        for (unsigned direction = 0; direction <= 3; direction++)
+            check_sum(&sums[i], (uint8_t)direction);
+    }
+    check_no_directions();
+    check_no_triples();
+    check_directions_handed_on();
+}
+
 int main(void)
 {
     CHECK(same(weigher_fresh(), state_of(0)));
@@ -300,5 +486,6 @@ int main(void)
     check_payload();
     check_screening();
     check_constants();
+    check_directions();
     return 0;
 }
