@@ -27,6 +27,26 @@ static void numeric(void)
     SHOW(weigher_scale(0xbff8000000000000, INT32_MAX)); /* -1.5, far beyond the finite ones */
 }
 
+/* 1/3, rounded, times itself and plus 1: a sum that lies between two floats. */
+static void show_fused_in(const char *name, uint8_t direction)
+{
+    uint64_t result;
+    unsigned refusal = weigher_fused_in(direction, 0x3fd5555555555555, 0x3fd5555555555555, 0x3ff0000000000000, &result);
+    if (refusal == 0)
+        printf("weigher_fused_in %s: 0x%016" PRIx64 "\n", name, result);
+    else
+        printf("weigher_fused_in %s: refusal %u\n", name, refusal);
+}
+
+static void directions(void)
+{
+    show_fused_in("nearest", WEIGHER_NEAREST);
+    show_fused_in("toward zero", WEIGHER_TOWARD_ZERO);
+    show_fused_in("up", WEIGHER_UP);
+    show_fused_in("down", WEIGHER_DOWN);
+    show_fused_in("in a direction that is not there", 4);
+}
+
 static void show_answer(const char *call, size_t used, size_t len, unsigned refusal, const uint8_t *answer)
 {
     printf("%s: used %zu, refusal %u, answer of %zu", call, used, refusal, len);
@@ -113,6 +133,7 @@ static void constants(void)
 int main(void)
 {
     numeric();
+    directions();
     frame_by_frame();
     whole_piece();
     refused_calls();
