@@ -71,7 +71,7 @@ fn operations() {
 fn bytes(digits: &str) -> Vec<u8> {
     let pairs = digits.as_bytes().chunks_exact(2);
     pairs
-        .map(|pair| number(str::from_utf8(pair).expect("digits")) as u8)
+        .map(|pair| number(std::str::from_utf8(pair).expect("digits")) as u8)
         .collect()
 }
 
