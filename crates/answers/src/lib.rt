@@ -3,23 +3,25 @@
 // The contracts are equations with the documents' answers on lists of bytes, in specs/Answers.antt.
 ghost use mathlib.Core.Path.{_≡_};
 ghost use mathlib.Core.List.{_++_};
-ghost use Prim.Native.Nat.{_+_, _*_, _≤_, _<_};
-ghost use lib.ListN.{length, getD, drop};
-ghost use Rattle.rounding.specs.Named.{directionOf};
+ghost use Prim.Native.Nat.{_+_, _*_, _≤_};
+ghost use lib.ListN.{length, drop};
 ghost use Rattle.frames.specs.Frame.{answerRoom, itemsFrom, itemBytes, refusalTo};
 ghost use Rattle.frames.specs.Body.{Body};
-ghost use Rattle.answers.specs.Answers.{named, resultAt, resultsOf, answerTo};
+ghost use Rattle.answers.specs.Answers.{directionIn, resultAt, resultsOf, answerTo};
 ghost use Rattle.answers.specs.Written.{Written};
 use frames::DIRECTED;
 use frames::SCORES;
 use rounding::Direction;
 use rounding::Named;
 
-// The direction that a kind 3 payload names.
-fn direction_in(payload: &[u8]) -> Direction
-    requires { ⌜ 0 < length (now payload) ⌝ }
-    ensures { λ r. ⌜ r ≡ named (directionOf (getD (now (payload .entry)) 0 0)) ⌝ }
+// The direction of a payload's triples.
+fn direction_in(kind: u8, payload: &[u8]) -> Direction
+    requires { ⌜ itemsFrom kind ≤ length (now payload) ⌝ }
+    ensures { λ r. ⌜ r ≡ directionIn kind (now (payload .entry)) ⌝ }
 {
+    if kind != DIRECTED {
+        return Direction::Nearest;
+    }
     let byte = rounding::direction_of(payload[0]);
     match byte {
         Named::Known(dir) => dir,
@@ -28,8 +30,8 @@ fn direction_in(payload: &[u8]) -> Direction
 }
 
 // The result of the item at a place of a payload.
-fn result_at(kind: u8, payload: &[u8], at: usize) -> u64
-    requires { ⌜ at + itemBytes kind ≤ length (now payload) ⌝ }
+fn result_at(kind: u8, dir: Direction, payload: &[u8], at: usize) -> u64
+    requires { ⌜ (at + itemBytes kind ≤ length (now payload)) × (dir ≡ directionIn kind (now payload)) ⌝ }
     ensures { λ r. ⌜ r ≡ resultAt kind (now (payload .entry)) at ⌝ }
 {
     if kind == SCORES {
@@ -38,10 +40,7 @@ fn result_at(kind: u8, payload: &[u8], at: usize) -> u64
     let a = words::read_u64(payload, at);
     let b = words::read_u64(payload, at + 8);
     let c = words::read_u64(payload, at + 16);
-    if kind == DIRECTED {
-        return multiply_add::fused_in(direction_in(payload), a, b, c);
-    }
-    multiply_add::fused_nearest(a, b, c)
+    multiply_add::fused_in(dir, a, b, c)
 }
 
 // Writes the results of the first n items of a payload.
@@ -50,11 +49,12 @@ fn write_results(kind: u8, payload: &[u8], n: usize, out: &mut [u8])
     ensures { λ r. ⌜ now (out .exit) ≡ resultsOf kind n (now (payload .entry)) ++ drop (8 * n) (now (out .entry)) ⌝ }
 {
     let size = frames::item_bytes(kind);
+    let dir = direction_in(kind, payload);
     let mut i = 0;
     let mut from = frames::items_from(kind);
     let mut at = 0;
     while i < n {
-        let x = result_at(kind, payload, from);
+        let x = result_at(kind, dir, payload, from);
         words::write_u64(&mut out[at..], x);
         i += 1;
         from += size;

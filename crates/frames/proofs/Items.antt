@@ -18,6 +18,10 @@ items-first (suc (suc zero)) n = refl
 items-first (suc (suc (suc zero))) n = absurd (n refl)
 items-first (suc (suc (suc (suc kind)))) n = refl
 
+pub items-third : {kind : ℕ} → kind ≡ 3 → itemsFrom kind ≡ 1
+unfolding kindOf
+items-third e = rw e refl
+
 pub none-own : (kind : ℕ) (payload : List ℕ) → (kind ≡ 3 → ⊥) → kindOf kind .own payload ≡ 0
 unfolding kindOf
 none-own zero p n = refl

@@ -1,8 +1,9 @@
 // Runs the vectors of standard input through the four operations that ieee754 defines: a line for each failure, and
 // then the count.
 //
-// A vector is `fused A B C WANT`, `round X WANT`, `floor X WANT` or `scale X N WANT`. Floats are bit patterns, and N is the
-// two's complement of 32 bits.
+// A vector is `fused A B C WANT`, to nearest, or with fused_toward_zero, fused_up or fused_down in its place; `round X WANT`,
+// `floor X WANT` or `scale X N WANT`. Floats are bit patterns, and N is the two's complement of 32 bits.
+use reply::Reply;
 use vectors::Answer;
 ghost use mathlib.Core.Path.{_≡_};
 ghost use Prim.Native.Nat.{_<_};
@@ -21,17 +22,40 @@ fn signed(n: u64) -> i32
     }
 }
 
+// The byte of the direction that a name of fused has, or 255.
+fn direction_of(name: &[u8]) -> u8 {
+    if check::same(name, b"fused") {
+        return 0;
+    }
+    if check::same(name, b"fused_toward_zero") {
+        return 1;
+    }
+    if check::same(name, b"fused_up") {
+        return 2;
+    }
+    if check::same(name, b"fused_down") {
+        return 3;
+    }
+    255
+}
+
+// What fused gives; a name of no direction is refused by it.
+fn fused(direction: u8, a: u64, b: u64, c: u64, want: u64) -> Answer {
+    let reply = multiply_add::fused(direction, a, b, c);
+    match reply {
+        Reply::Refused(_) => Answer::Malformed,
+        Reply::Bits(got) => Answer::Found { got, want },
+    }
+}
+
 // What a line's operation gives for its numbers, of which the last is the one wanted.
 fn answer(line: &[u8]) -> Answer {
     let name = vectors::name_of(line);
     let numbers = vectors::numbers_of(line);
     let count = numbers.count;
     let v = numbers.values;
-    if count == 4 && check::same(name, b"fused") {
-        return Answer::Found {
-            got: multiply_add::fused_nearest(v[0], v[1], v[2]),
-            want: v[3],
-        };
+    if count == 4 {
+        return fused(direction_of(name), v[0], v[1], v[2], v[3]);
     }
     if count == 3 && v[1] < 4294967296 && check::same(name, b"scale") {
         return Answer::Found {

@@ -2,3 +2,4 @@
 pub mod Sums
 pub mod Products
 mod Special
+mod Examples

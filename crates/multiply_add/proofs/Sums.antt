@@ -2,14 +2,15 @@
 -- that a sticky bit does no harm: a shift of at most 21 digits is exact, and from 22 on nothing cancels. Assumes nothing.
 use mathlib.Core.Path.{_≡_, refl, sym, ap, ap₂, _∙_, subst}
 use mathlib.Core.Logic.{_⊎_, inl, inr, ⊎-elim}
-use Prim.Native.Nat.{ℕ, _+_, _-_, _*_, _/_, _%_, _^_, _≤_, _<_}
-use native.Mathlib.Nat.{le-refl, le-trans, le-of-eq, le-of-lt, lt-of-lt-of-le, lt-of-le-of-lt, le-antisymm, mod-eq-of-lt, add-comm, add-zero, mul-one, mul-assoc, add-mul, mul-le-mul-left, mul-lt-mul-of-pos-right, lt-of-mul-lt-mul-right, eq-of-mul-eq-mul-right, add-le-add, add-mod-left, div-add-mod'}
+use Prim.Native.Nat.{ℕ, suc, _+_, _-_, _*_, _/_, _%_, _^_, _≤_, _<_}
+use native.Mathlib.Nat.{le-refl, le-trans, le-of-eq, le-of-lt, lt-of-lt-of-le, lt-of-le-of-lt, le-antisymm, mod-eq-of-lt, add-comm, add-zero, mul-one, mul-assoc, add-mul, mul-le-mul-left, mul-le-mul-right, suc-mul, sub-le, mul-lt-mul-of-pos-right, lt-of-mul-lt-mul-right, eq-of-mul-eq-mul-right, add-le-add, add-mod-left, div-add-mod'}
 use native.Mathlib.Omega.{arith}
 use mathlib.Core.Bool.{Bool, true, false, cond, Bool·beq, true≢false}
+use lib.Arith.{digits-lt}
 use lib.IntN.{pos}
-use lib.Dec.{ltb, lit≤}
-use lib.Pow.{pow-add, pow-pos, pow-mono, add-lt-pow}
-use borrow.Author.Tests.{lt-ltb, le-ltb, ltb-true, ltb-false}
+use lib.Dec.{ltb, leb, lit≤}
+use lib.Pow.{pow-add, pow-pos, pow-mono}
+use borrow.Author.Tests.{lt-ltb, le-ltb, ltb-true, ltb-false, le-leb, lt-leb}
 use lib.Ieee.{fin, binary64, toBits}
 use Rattle.wide.specs.declared.Wide.{Wide}
 use Rattle.wide.specs.Words.{value, jammed}
@@ -200,6 +201,30 @@ sub-fits x y w W X e h = go (2 ^ 128) W X e
         (λ (l : w + y < N). back w y x (sym (mod-eq-of-lt l) ∙ e))
         (le-or-gt N (w + y))
 
+-- the highest bit of x - y modulo 2 ^ 128, where both are below 2 ^ 127
+high-below : (h l b k x : ℕ) → h * b + l ≤ x → x < k * b → h < k
+high-below h l b k x p q = lt-of-mul-lt-mul-right b (omega arith)
+
+high-above : (h l b k y x : ℕ) → l < b → y < k * b → x < y → (h * b + l + y) % (k * b + k * b) ≡ x → k ≤ h
+high-above h l b k y x L Y X e = told (le-or-gt k h)
+  where
+    told : (k ≤ h) ⊎ (h < k) → k ≤ h
+    told (inl p) = p
+    told (inr p) =
+        let m : suc h * b ≤ k * b = mul-le-mul-right b p in
+        let n = suc-mul h b in
+        let f : h * b + l + y < k * b + k * b = omega arith in
+        absurd (omega (arith, sym (mod-eq-of-lt f) ∙ e))
+
+pub sub-sign : (x y h l : ℕ) → x < 2 ^ 127 → y < 2 ^ 127 → h < 2 ^ 64 → l < 2 ^ 64 → (h * 2 ^ 64 + l + y) % 2 ^ 128 ≡ x → leb (2 ^ 63) h ≡ ltb x y
+sub-sign x y h l X Y H L e = told (ltb x y) refl
+  where
+    told : (b : Bool) → ltb x y ≡ b → leb (2 ^ 63) h ≡ b
+    told true f = le-leb (2 ^ 63) h (high-above h l (2 ^ 64) (2 ^ 63) y x L Y (ltb-true x y f) e)
+    told false f =
+        let v = sub-fits x y (h * 2 ^ 64 + l) (digits-lt H L) (lt-of-lt-of-le X (pow-mono {i = 127} {j = 128} (omega arith))) e (ltb-false x y f) in
+        lt-leb (2 ^ 63) h (high-below h l (2 ^ 64) (2 ^ 63) (x - y) (le-of-eq v) (lt-of-le-of-lt (sub-le x y) X))
+
 module _ (d : Direction) (s t : Bool) {A B c x y e : ℕ} (S U D : Wide) (hS : value S ≡ x + y) (hU : x ≤ y → value U ≡ y - x) (hD : y ≤ x → value D ≡ x - y) (h : Addends A B c x y e) (r : ℕ) where
   pub picked-answer : (same under : Bool) → same ≡ Bool·beq s t → under ≡ ltb x y → 0 < x → RoundsSum d (cond under t s) (value (cond same S (cond under U D))) e r → r ≡ toBits binary64 (sumTo d s A t B c)
   picked-answer true under p u X f = add-answer h d s t r l (subst (λ (w : ℕ). Rounds d s w e r) hS (subst (λ (z : Bool). Rounds d z (value S) e r) (sign under) (f .1 (some x y (value S) X hS))))
@@ -239,8 +264,9 @@ module _ (d : Direction) (s t : Bool) {A B c x y e : ℕ} (S U D : Wide) (hS : v
 pub ready-pos : {w : ℕ} → Ready w → 0 < w
 ready-pos h = lt-of-lt-of-le (pow-pos 125) (h .low)
 
-pub ready-sum : {x y z : ℕ} (t : ℕ) → Ready x → Ready y → z ≡ jammed y (2 ^ t) → x + z < 2 ^ 128
-ready-sum {x} {y} {z} t X Y e = add-lt-pow 127 (X .high) (jam-below (2 ^ 127) refl (lt-of-lt-of-le (Y .high) (le-trans (le-of-eq (sym (mul-one (2 ^ 127)))) (mul-le-mul-left (2 ^ 127) (pow-pos t)))) (jam-of (pow-pos t) e))
+-- shifted down, it has no more digits
+pub ready-shifted : {y z : ℕ} (t : ℕ) → Ready y → z ≡ jammed y (2 ^ t) → z < 2 ^ 127
+ready-shifted {y} {z} t Y e = jam-below (2 ^ 127) refl (lt-of-lt-of-le (Y .high) (le-trans (le-of-eq (sym (mul-one (2 ^ 127)))) (mul-le-mul-left (2 ^ 127) (pow-pos t)))) (jam-of (pow-pos t) e)
 
 -- 2 ^ t divides what 2 ^ 21 divides
 divides : (y t : ℕ) → t ≤ 21 → y % 2 ^ 21 ≡ 0 → y ≡ y / 2 ^ 21 * 2 ^ (21 - t) * 2 ^ t

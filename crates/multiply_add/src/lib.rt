@@ -77,15 +77,15 @@ fn round_usual(dir: Direction, neg: bool, w: Wide, e: u64) -> u64
 }
 
 // ±x ±y at the exponent e, rounded and packed. The sum and both differences are made, and one of them is picked: the
-// signs and the order of random operands would be mispredicted as branches.
+// signs and the order of random operands would be mispredicted as branches. x - y has the highest bit where x is under y.
 fn add_signed(dir: Direction, s: bool, x: Wide, t: bool, y: Wide, e: u64) -> u64
-    requires { ⌜ (e ≤ 4194) × (0 < value x) × (value x + value y < 2 ^ 128) ⌝ }
+    requires { ⌜ (e ≤ 4194) × (0 < value x) × (value x < 2 ^ 127) × (value y < 2 ^ 127) ⌝ }
     ensures { λ r. ⌜ ((A B c : ℕ) → Addends A B c (value x) (value y) e → r ≡ toBits binary64 (sumTo dir s A t B c)) ⌝ }
 {
     let sum = wide::add(x, y);
     let up = wide::sub(y, x);
     let down = wide::sub(x, y);
-    let under = wide::less(x, y);
+    let under = SIGN <= down.hi;
     let w = wide::pick(s == t, sum, wide::pick(under, up, down));
     round_usual(dir, pick_sign(under, t, s), w, e)
 }

@@ -6,3 +6,4 @@ pub mod Rounding
 pub mod Leading
 pub mod Fits
 mod Examples
+mod DirectionBytes

@@ -3,9 +3,11 @@
 // was cut off below it; the contracts say of which exact numbers it is the significand (`Stands` of specs/Machine.antt).
 ghost use mathlib.Core.Path.{_≡_};
 ghost use Prim.Native.Nat.{ℕ, _+_, _-_, _*_, _%_, _^_, _≤_, _<_};
+ghost use mathlib.Core.Bool.{true, false};
 ghost use lib.Count.{leadingZeros};
 ghost use lib.Ieee.{toBits, binary64};
 ghost use Rattle.wide.specs.Words.{value, jammed};
+ghost use Rattle.rounding.specs.declared.Direction.the-variants.{Nearest};
 ghost use Rattle.rounding.specs.Rounding.{whole, roundTo};
 ghost use Rattle.rounding.specs.Named.{directionOf};
 ghost use Rattle.rounding.specs.Machine.{signBit, overflowBits, boundedBits, packed, toNearest, roundsAway, increment, normalBits, Stands, Rounds, RoundsWord};
@@ -67,16 +69,33 @@ fn to_nearest(dir: Direction) -> bool
     }
 }
 
-// Whether a directed rounding moves a size away from zero.
-fn rounds_away(dir: Direction, neg: bool) -> bool
-    ensures { λ r. ⌜ r ≡ roundsAway dir neg ⌝ }
+fn is_up(dir: Direction) -> bool
+    ensures { λ r. ⌜ r ≡ roundsAway dir false ⌝ }
 {
     match dir {
         Direction::Nearest => false,
         Direction::TowardZero => false,
-        Direction::Up => !neg,
-        Direction::Down => neg,
+        Direction::Up => true,
+        Direction::Down => false,
     }
+}
+
+fn is_down(dir: Direction) -> bool
+    ensures { λ r. ⌜ r ≡ roundsAway dir true ⌝ }
+{
+    match dir {
+        Direction::Nearest => false,
+        Direction::TowardZero => false,
+        Direction::Up => false,
+        Direction::Down => true,
+    }
+}
+
+// Whether a directed rounding moves a size away from zero.
+fn rounds_away(dir: Direction, neg: bool) -> bool
+    ensures { λ r. ⌜ r ≡ roundsAway dir neg ⌝ }
+{
+    if neg { is_down(dir) } else { is_up(dir) }
 }
 
 fn overflow_bits(dir: Direction, neg: bool) -> u64
@@ -185,30 +204,48 @@ fn leading_digits(w: Wide) -> u64
     wide::set_sticky((hi << z) + (lo / 2 >> (63 - z)), lo << z)
 }
 
-// w * 2^e in units of 2^-2273, rounded and packed.
-pub fn round_wide(dir: Direction, neg: bool, w: Wide, e: u64) -> u64
-    requires { ⌜ (0 < value w) × (e ≤ 4194) ⌝ }
-    ensures { λ r. ⌜ Rounds dir neg (value w) e r ⌝ }
+// The number of two words times 2^e, in units of 2^-2273, rounded and packed. The words stand by themselves: a Wide would be passed in
+// memory.
+fn round_words(dir: Direction, neg: bool, hi: u64, lo: u64, e: u64) -> u64
+    requires { ⌜ (0 < hi * 2 ^ 64 + lo) × (e ≤ 4194) ⌝ }
+    ensures { λ r. ⌜ Rounds dir neg (hi * 2 ^ 64 + lo) e r ⌝ }
 {
-    let hi = w.hi;
-    let lo = w.lo;
     if hi == 0 {
         let z = u64::leading_zeros(lo) as u64;
         round_pack(dir, neg, lo << z, e + 64 - z)
     } else {
         let z = u64::leading_zeros(hi) as u64;
-        round_pack(dir, neg, leading_digits(w), e + 128 - z)
+        round_pack(dir, neg, leading_digits(Wide { hi, lo }), e + 128 - z)
     }
 }
 
-// The same, where the result is surely a normal number. It is short enough to stand in its caller's body, which knows the direction.
+// w * 2^e in units of 2^-2273, rounded and packed.
+pub fn round_wide(dir: Direction, neg: bool, w: Wide, e: u64) -> u64
+    requires { ⌜ (0 < value w) × (e ≤ 4194) ⌝ }
+    ensures { λ r. ⌜ Rounds dir neg (value w) e r ⌝ }
+{
+    round_words(dir, neg, w.hi, w.lo, e)
+}
+
+// The same to nearest, where the result is surely a normal number.
+fn round_nearest(neg: bool, w: Wide, e: u64) -> u64
+    requires { ⌜ (0 < w .hi) × (1187 ≤ e) × (e ≤ 3168) ⌝ }
+    ensures { λ r. ⌜ Rounds Nearest neg (value w) e r ⌝ }
+{
+    let hi = w.hi;
+    let z = u64::leading_zeros(hi) as u64;
+    pack_normal(Direction::Nearest, neg, leading_digits(w), e + 128 - z)
+}
+
+// The same in every direction. To nearest it is short, and stands in its caller's body.
 pub fn round_normal(dir: Direction, neg: bool, w: Wide, e: u64) -> u64
     requires { ⌜ (0 < w .hi) × (1187 ≤ e) × (e ≤ 3168) ⌝ }
     ensures { λ r. ⌜ Rounds dir neg (value w) e r ⌝ }
 {
-    let hi = w.hi;
-    let z = u64::leading_zeros(hi) as u64;
-    pack_normal(dir, neg, leading_digits(w), e + 128 - z)
+    match dir {
+        Direction::Nearest => round_nearest(neg, w, e),
+        _ => round_wide(dir, neg, w, e),
+    }
 }
 
 // The same for one word. It may end in a sticky bit where it has 62 digits or more.

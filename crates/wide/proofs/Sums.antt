@@ -1,14 +1,12 @@
--- Sums, differences and the order of numbers in two words, from those of the words. The word's base is a variable, W. Assumes nothing.
+-- Sums and differences of numbers in two words, from those of the words. The word's base is a variable, W. Assumes nothing.
 use mathlib.Core.Path.{_≡_, sym, ap, ap₂, _∙_}
-use mathlib.Core.Logic.{_⊎_, inl, inr}
 use Prim.Native.Nat.{ℕ, _+_, _*_, _%_, _^_, _≤_, _<_}
 use native.Mathlib.Nat.{add-mul, one-mul, add-zero, zero-add, mod-add-mod}
 use native.Mathlib.Omega.{arith}
 use mathlib.Core.Bool.{false}
-use lib.Dec.{ltb, eqb}
+use lib.Dec.{eqb}
 use lib.Arith.{digits-div, digits-mod, mod-mul}
-use borrow.Author.Tests.{lt-ltb, le-ltb, ne-eqb}
-use Rattle.wide.proofs.Nat.{le-or-gt}
+use borrow.Author.Tests.{ne-eqb}
 
 -- the low words add up to l and a carry c, the high words with the carry to h
 sum : (W xh xl yh yl c h l : ℕ) → 0 < W → l < W → xl + yl ≡ c * W + l → (xh + yh + c) % W ≡ h → (xh * W + xl + (yh * W + yl)) % (W * W) ≡ h * W + l
@@ -54,21 +52,7 @@ sub-borrow xh xl yh yl h h' l a b c d e f g =
     swap : (h y : ℕ) → h + y + 1 ≡ h + 1 + y
     swap h y = omega arith
 
--- ---- `less`, `is_zero`
-
-pub less-low : (a b c d : ℕ) → a ≡ c → ltb b d ≡ ltb (a * 2 ^ 64 + b) (c * 2 ^ 64 + d)
-less-low a b c d e = go (le-or-gt d b)
-  where
-    go : (d ≤ b) ⊎ (b < d) → ltb b d ≡ ltb (a * 2 ^ 64 + b) (c * 2 ^ 64 + d)
-    go (inr l) = lt-ltb b d l ∙ sym (lt-ltb (a * 2 ^ 64 + b) (c * 2 ^ 64 + d) (omega arith))
-    go (inl l) = le-ltb b d l ∙ sym (le-ltb (a * 2 ^ 64 + b) (c * 2 ^ 64 + d) (omega arith))
-
-pub less-high : (a b c d : ℕ) → b < 2 ^ 64 → d < 2 ^ 64 → (a ≡ c → ⊥) → ltb a c ≡ ltb (a * 2 ^ 64 + b) (c * 2 ^ 64 + d)
-less-high a b c d B D n = go (le-or-gt c a)
-  where
-    go : (c ≤ a) ⊎ (a < c) → ltb a c ≡ ltb (a * 2 ^ 64 + b) (c * 2 ^ 64 + d)
-    go (inr l) = lt-ltb a c l ∙ sym (lt-ltb (a * 2 ^ 64 + b) (c * 2 ^ 64 + d) (omega arith))
-    go (inl l) = le-ltb a c l ∙ sym (le-ltb (a * 2 ^ 64 + b) (c * 2 ^ 64 + d) (omega arith))
+-- ---- `is_zero`
 
 pub zero-low : (h l : ℕ) → h ≡ 0 → eqb l 0 ≡ eqb (h * 2 ^ 64 + l) 0
 zero-low h l e = ap (λ (x : ℕ). eqb x 0) (sym (ap (λ (x : ℕ). x * 2 ^ 64 + l) e ∙ zero-add l))

@@ -82,16 +82,6 @@ pub fn sub(x: Wide, y: Wide) -> Wide
     }
 }
 
-pub fn less(x: Wide, y: Wide) -> bool
-    ensures { λ r. ⌜ r ≡ ltb (value x) (value y) ⌝ }
-{
-    if x.hi == y.hi {
-        x.lo < y.lo
-    } else {
-        x.hi < y.hi
-    }
-}
-
 pub fn is_zero(x: Wide) -> bool
     ensures { λ r. ⌜ r ≡ eqb (value x) 0 ⌝ }
 {

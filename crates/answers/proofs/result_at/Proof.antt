@@ -4,7 +4,7 @@ use native.Mathlib.Omega.{arith}
 use Rattle.ieee754.specs.Operations.{fusedBits}
 use Rattle.exp2m1.specs.Score.{scoreBits}
 use Rattle.frames.proofs.Items.{item-one, item-other}
-use Rattle.answers.proofs.Results.{result-one, result-other, direction-named, direction-nearest}
+use Rattle.answers.proofs.Results.{result-one, result-other}
 use borrow.Author.Needs.{needs}
 use Rattle.answers.proofs.result_at.Statement.{statement}
 use Rattle.answers.proofs.result_at.Tie as tie
@@ -35,32 +35,15 @@ add-read-u64-2 c = search needs
 read-u64-requires-4 : tie.Need-read-u64-requires-4
 read-u64-requires-4 c κs = omega (arith, item-other _ (c .before .before .if1 .left))
 
-direction-in-requires : tie.Need-direction-in-requires
-direction-in-requires c κs = omega (arith, item-other _ (c .before .before .before .before .if1 .left))
-
 fused-in-requires : tie.Need-fused-in-requires
 fused-in-requires c κs = search needs
 
 returns-2 : tie.Need-returns-2
 returns-2 c =
-    let r = c .before .before in
-    let s = r .before .before .before .before .before .before in
-    let p = s .args .payload .now in
+    let s = c .before .before .before .before .before .before in
     c .fused-in .ensures
-    ∙ (λ i. fusedBits ((c .before .direction-in .ensures ∙ sym (direction-named (r .if2 .taken) p)) i) ((r .before .before .before .read-u642 .ensures) i) ((r .before .before .read-u643 .ensures) i) ((r .before .read-u644 .ensures) i))
-    ∙ sym (result-other (r .before .before .before .before .if1 .left) p (s .args .at))
-
-fused-nearest-requires : tie.Need-fused-nearest-requires
-fused-nearest-requires c κs = search needs
-
-returns-3 : tie.Need-returns-3
-returns-3 c =
-    let r = c .before in
-    let s = r .before .before .before .before .before .before in
-    let p = s .args .payload .now in
-    c .fused-nearest .ensures
-    ∙ (λ i. fusedBits (sym (direction-nearest (r .if2 .left) p) i) ((r .before .before .before .read-u642 .ensures) i) ((r .before .before .read-u643 .ensures) i) ((r .before .read-u644 .ensures) i))
-    ∙ sym (result-other (r .before .before .before .before .if1 .left) p (s .args .at))
+    ∙ (λ i. fusedBits ((s .pre .1) i) ((c .before .before .before .read-u642 .ensures) i) ((c .before .before .read-u643 .ensures) i) ((c .before .read-u644 .ensures) i))
+    ∙ sym (result-other (c .before .before .before .before .if1 .left) (s .args .payload .now) (s .args .at))
 
 pub result-at-spec : {M : Type 1} → statement M
 result-at-spec =
@@ -74,8 +57,5 @@ result-at-spec =
     read-u64-requires-3
     add-read-u64-2
     read-u64-requires-4
-    direction-in-requires
     fused-in-requires
-    returns-2
-    fused-nearest-requires
-    returns-3)
+    returns-2)

@@ -7,21 +7,25 @@ use native.Mathlib.Numerals.{add-one}
 use native.Mathlib.Omega.{arith}
 use lib.ListN.{length, drop, length-take, length-drop}
 use Rattle.frames.specs.Frame.{itemsFrom, itemBytes}
-use Rattle.answers.specs.Answers.{resultAt, resultsOf}
+use Rattle.answers.specs.Answers.{directionIn, resultAt, resultsOf}
 use Rattle.answers.proofs.Results.{item-within, out-length, results-step}
 use Rattle.answers.proofs.write_results.Statement.{statement}
 use Rattle.answers.proofs.write_results.Tie as tie
 
 abbrev Inv-loop : tie.InvT-loop
-Inv-loop kind payload n out₀ size i₀ from₀ at₀ out i from at =
+Inv-loop kind payload n out₀ size dir i₀ from₀ at₀ out i from at =
     (i ≤ n) × (from ≡ itemsFrom kind + i * size) × (at ≡ 8 * i) × (size ≡ itemBytes kind) × (itemsFrom kind + n * size ≤ length payload) × (8 * n ≤ length out₀)
+    × (dir ≡ directionIn kind payload)
     × (out ≡ resultsOf kind i payload ++ drop (8 * i) out₀)
 
 abbrev μ-loop : tie.MeasureT-loop
-μ-loop kind payload n out₀ size i₀ from₀ at₀ out i from at = n - i
+μ-loop kind payload n out₀ size dir i₀ from₀ at₀ out i from at = n - i
 
 item-bytes-requires : tie.Need-item-bytes-requires Inv-loop μ-loop
 item-bytes-requires c κs = tt
+
+direction-in-requires : tie.Need-direction-in-requires Inv-loop μ-loop
+direction-in-requires c κs = let s = c .before .before .before in omega (arith, s .pre .0)
 
 items-from-requires : tie.Need-items-from-requires Inv-loop μ-loop
 items-from-requires c κs = tt
@@ -29,36 +33,37 @@ items-from-requires c κs = tt
 loop-holds : tie.Need-loop-holds Inv-loop μ-loop
 unfolding resultsOf
 loop-holds c =
-    let s = c .before .before .before .before in
-    let e = c .before .item-bytes .ensures .0 in (
+    let s = c .before .before .before .before .before in
+    let e = c .before .before .item-bytes .ensures .0 in (
       omega arith,
-      c .items-from .ensures .0 ∙ sym (add-zero _) ∙ ap (λ (m : ℕ). itemsFrom (s .args .kind) + m) (sym (zero-mul (c .before .item-bytes .result))),
+      c .items-from .ensures .0 ∙ sym (add-zero _) ∙ ap (λ (m : ℕ). itemsFrom (s .args .kind) + m) (sym (zero-mul (c .before .before .item-bytes .result))),
       refl,
       e,
       rw e (s .pre .0),
       s .pre .1,
+      c .before .direction-in .ensures,
       refl,
     )
 
 result-at-requires : tie.Need-result-at-requires Inv-loop μ-loop
 result-at-requires c κs =
     let l = c .before in
-    let s = l .before .before .before .before .before in
-    let r = item-within (itemsFrom (s .args .kind)) (l .loop .i) _ (l .before .before .item-bytes .result) (c .loop-test .taken) (l .loop .inv .4) in
-    omega arith
+    let s = l .before .before .before .before .before .before in
+    let r = item-within (itemsFrom (s .args .kind)) (l .loop .i) _ (l .before .before .before .item-bytes .result) (c .loop-test .taken) (l .loop .inv .4) in
+    (omega arith, l .loop .inv .6)
 
 sub-write-u64 : tie.Need-sub-write-u64 Inv-loop μ-loop
 sub-write-u64 c =
     let l = c .before .before in
-    let s = l .before .before .before .before .before in
-    let h = out-length (s .args .kind) (l .loop .i) (s .args .payload .now) (l .loop .out) (s .args .out .now) (l .loop .inv .6) (omega arith) in
+    let s = l .before .before .before .before .before .before in
+    let h = out-length (s .args .kind) (l .loop .i) (s .args .payload .now) (l .loop .out) (s .args .out .now) (l .loop .inv .7) (omega arith) in
     omega arith
 
 part-write-u64-start : tie.Need-part-write-u64-start Inv-loop μ-loop
 part-write-u64-start c =
     let l = c .before .before in
-    let s = l .before .before .before .before .before in
-    let h = out-length (s .args .kind) (l .loop .i) (s .args .payload .now) (l .loop .out) (s .args .out .now) (l .loop .inv .6) (omega arith) in
+    let s = l .before .before .before .before .before .before in
+    let h = out-length (s .args .kind) (l .loop .i) (s .args .payload .now) (l .loop .out) (s .args .out .now) (l .loop .inv .7) (omega arith) in
     omega arith
 
 part-write-u64-end : tie.Need-part-write-u64-end Inv-loop μ-loop
@@ -67,8 +72,8 @@ part-write-u64-end c = omega arith
 write-u64-requires : tie.Need-write-u64-requires Inv-loop μ-loop
 write-u64-requires c κs =
     let l = c .before .before .before in
-    let s = l .before .before .before .before .before in
-    let h = out-length (s .args .kind) (l .loop .i) (s .args .payload .now) (l .loop .out) (s .args .out .now) (l .loop .inv .6) (omega arith) in
+    let s = l .before .before .before .before .before .before in
+    let h = out-length (s .args .kind) (l .loop .i) (s .args .payload .now) (l .loop .out) (s .args .out .now) (l .loop .inv .7) (omega arith) in
     simp (length-take, length-drop) (omega arith)
 
 add-i : tie.Need-add-i Inv-loop μ-loop
@@ -77,8 +82,8 @@ add-i c = omega arith
 add-from : tie.Need-add-from Inv-loop μ-loop
 add-from c =
     let l = c .before .before .before .before .before .before in
-    let s = l .before .before .before .before .before in
-    let r = item-within (itemsFrom (s .args .kind)) (l .loop .i) _ (l .before .before .item-bytes .result) (c .before .before .before .before .before .loop-test .taken) (l .loop .inv .4) in
+    let s = l .before .before .before .before .before .before in
+    let r = item-within (itemsFrom (s .args .kind)) (l .loop .i) _ (l .before .before .before .item-bytes .result) (c .before .before .before .before .before .loop-test .taken) (l .loop .inv .4) in
     omega arith
 
 add-at : tie.Need-add-at Inv-loop μ-loop
@@ -90,8 +95,8 @@ loop-less c = omega arith
 loop-again : tie.Need-loop-again Inv-loop μ-loop
 loop-again c =
     let l = c .before .before .before .before .before .before in
-    let s = l .before .before .before .before .before in
-    let size = l .before .before .item-bytes .result in
+    let s = l .before .before .before .before .before .before in
+    let size = l .before .before .before .item-bytes .result in
     let start = itemsFrom (s .args .kind) in
     let place : l .loop .from ≡ start + l .loop .i * itemBytes (s .args .kind) = l .loop .inv .1 ∙ ap (λ (m : ℕ). start + l .loop .i * m) (l .loop .inv .3) in (
       omega arith,
@@ -100,7 +105,8 @@ loop-again c =
       l .loop .inv .3,
       l .loop .inv .4,
       l .loop .inv .5,
-      results-step (s .args .kind) (l .loop .i) (s .args .payload .now) (l .loop .out) (s .args .out .now) (l .loop .inv .6) (omega arith)
+      l .loop .inv .6,
+      results-step (s .args .kind) (l .loop .i) (s .args .payload .now) (l .loop .out) (s .args .out .now) (l .loop .inv .7) (omega arith)
           (l .loop .at) _ (c .before .before .write-u64 .last .0)
           (l .loop .inv .2)
           (c .before .before .before .before .result-at .ensures ∙ ap (resultAt (s .args .kind) (s .args .payload .now)) place)
@@ -110,15 +116,15 @@ loop-again c =
 same-length : tie.Need-same-length Inv-loop μ-loop
 same-length c =
     let l = c .before in
-    let s = l .before .before .before .before .before in
-    out-length (s .args .kind) (l .loop .i) (s .args .payload .now) (l .loop .out) (s .args .out .now) (l .loop .inv .6) (omega arith)
+    let s = l .before .before .before .before .before .before in
+    out-length (s .args .kind) (l .loop .i) (s .args .payload .now) (l .loop .out) (s .args .out .now) (l .loop .inv .7) (omega arith)
 
 returns : tie.Need-returns Inv-loop μ-loop
 returns c =
     let l = c .before in
-    let s = l .before .before .before .before .before in
+    let s = l .before .before .before .before .before .before in
     let e : l .loop .i ≡ s .args .n = omega arith in
-    rw (← e) (l .loop .inv .6)
+    rw (← e) (l .loop .inv .7)
 
 pub write-results-spec : {M : Type 1} → statement M
 write-results-spec =
@@ -127,6 +133,7 @@ write-results-spec =
     Inv-loop
     μ-loop
     item-bytes-requires
+    direction-in-requires
     items-from-requires
     loop-holds
     result-at-requires

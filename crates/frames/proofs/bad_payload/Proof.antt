@@ -1,6 +1,6 @@
 -- `frames::bad_payload` meets its contract. Assumes nothing.
-use Prim.Native.Nat.{ℕ, _-_, _%_}
-use mathlib.Core.Path.{refl, sym, _∙_}
+use Prim.Native.Nat.{_-_, _%_}
+use mathlib.Core.Path.{refl}
 use mathlib.Core.Bool.{not}
 use lib.Dec.{eqb}
 use borrow.Author.Tests.{le-leb, lt-leb}

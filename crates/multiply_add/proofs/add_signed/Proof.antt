@@ -3,11 +3,13 @@ use mathlib.Core.Path.{_≡_, refl, ap, _∙_, subst}
 use mathlib.Core.Bool.{Bool, cond, Bool·beq}
 use Prim.Native.Nat.{ℕ, _+_, _-_, _≤_}
 use lib.Arith.{digits-lt}
+use lib.Dec.{ltb, leb}
+use lib.Pow.{add-lt-pow}
 use borrow.Author.Needs.{needs}
 use Rattle.wide.specs.declared.Wide.{Wide}
 use Rattle.wide.specs.Words.{value}
 use Rattle.operands.specs.Machine.{RoundsSum}
-use Rattle.multiply_add.proofs.Sums.{add-fits, sub-fits, picked-answer}
+use Rattle.multiply_add.proofs.Sums.{add-fits, sub-fits, sub-sign, picked-answer}
 use Rattle.multiply_add.proofs.add_signed.Statement.{statement}
 use Rattle.multiply_add.proofs.add_signed.Tie as tie
 
@@ -17,7 +19,7 @@ record Made (x y : ℕ) (S U D : Wide) : Type 0 where
   pub up : x ≤ y → value U ≡ y - x
   pub down : y ≤ x → value D ≡ x - y
 
-made : (l : tie.After-less) → let a = l .before .before .before .before .args in Made (value (a .x)) (value (a .y)) (l .before .before .before .add .result) (l .before .before .sub .result) (l .before .sub2 .result)
+made : (l : tie.After-struct-known) → let a = l .before .before .before .before .args in Made (value (a .x)) (value (a .y)) (l .before .before .before .add .result) (l .before .before .sub .result) (l .before .sub2 .result)
 made l =
     let d = l .before in
     let u = d .before in
@@ -28,14 +30,24 @@ made l =
     let X = digits-lt (s .good .1 .1 .0 .1 .1 .0 .1) (s .good .1 .1 .0 .1 .1 .1 .0 .1) in
     let Y = digits-lt (s .good .1 .1 .1 .1 .0 .1 .1 .0 .1) (s .good .1 .1 .1 .1 .0 .1 .1 .1 .0 .1) in
     record {
-      sum = add-fits (value x) (value y) (value (p .add .result)) (s .pre .2) (p .add .ensures);
+      sum = add-fits (value x) (value y) (value (p .add .result)) (add-lt-pow 127 (s .pre .2) (s .pre .3)) (p .add .ensures);
       up = sub-fits (value y) (value x) (value (u .sub .result)) (digits-lt (u .sub .ok .1 .1 .0 .1) (u .sub .ok .1 .1 .1 .0 .1)) Y (u .sub .ensures);
       down = sub-fits (value x) (value y) (value (d .sub2 .result)) (digits-lt (d .sub2 .ok .1 .1 .0 .1) (d .sub2 .ok .1 .1 .1 .0 .1)) X (d .sub2 .ensures);
     }
 
+-- whether x is under y, by the highest bit of x - y
+abbrev under : tie.After-struct-known → Bool
+under l = leb 0x8000000000000000 (l .before .sub2 .result .hi)
+
+under-is : (l : tie.After-struct-known) → let a = l .before .before .before .before .args in under l ≡ ltb (value (a .x)) (value (a .y))
+under-is l =
+    let d = l .before .sub2 in
+    let s = l .before .before .before .before in
+    sub-sign (value (s .args .x)) (value (s .args .y)) (d .result .hi) (d .result .lo) (s .pre .2) (s .pre .3) (d .ok .1 .1 .0 .1) (d .ok .1 .1 .1 .0 .1) (d .ensures)
+
 -- what was picked
 what : (c : tie.After-pick2) → let l = c .before .before in let a = l .before .before .before .before .args in
-    c .pick2 .result ≡ cond (Bool·beq (a .s) (a .t)) (l .before .before .before .add .result) (cond (l .less .result) (l .before .before .sub .result) (l .before .sub2 .result))
+    c .pick2 .result ≡ cond (Bool·beq (a .s) (a .t)) (l .before .before .before .add .result) (cond (under l) (l .before .before .sub .result) (l .before .sub2 .result))
 what c =
     let p = c .before in
     let l = p .before in
@@ -50,9 +62,6 @@ sub-requires c κs = search needs
 
 sub-requires-2 : tie.Need-sub-requires-2
 sub-requires-2 c κs = search needs
-
-less-requires : tie.Need-less-requires
-less-requires c κs = search needs
 
 pick-requires : tie.Need-pick-requires
 pick-requires c κs = search needs
@@ -76,9 +85,9 @@ returns c =
     let a = s .args in
     let m = made l in
     picked-answer (a .dir) (a .s) (a .t) (l .before .before .before .add .result) (l .before .before .sub .result) (l .before .sub2 .result) (m .sum) (m .up) (m .down) h (c .round-usual .result)
-    (Bool·beq (a .s) (a .t)) (l .less .result) refl (l .less .ensures) (s .pre .1)
-    (subst (λ (w : Wide). RoundsSum (a .dir) (cond (l .less .result) (a .t) (a .s)) (value w) (a .e) (c .round-usual .result)) (what p2)
+    (Bool·beq (a .s) (a .t)) (under l) refl (under-is l) (s .pre .1)
+    (subst (λ (w : Wide). RoundsSum (a .dir) (cond (under l) (a .t) (a .s)) (value w) (a .e) (c .round-usual .result)) (what p2)
     (subst (λ (b : Bool). RoundsSum (a .dir) b (value (p2 .pick2 .result)) (a .e) (c .round-usual .result)) (g .pick-sign .ensures) (c .round-usual .ensures)))
 
 pub add-signed-spec : {M : Type 1} → statement M
-add-signed-spec = tie.close (tie.spec add-requires sub-requires sub-requires-2 less-requires pick-requires pick-requires-2 pick-sign-requires round-usual-requires returns)
+add-signed-spec = tie.close (tie.spec add-requires sub-requires sub-requires-2 pick-requires pick-requires-2 pick-sign-requires round-usual-requires returns)

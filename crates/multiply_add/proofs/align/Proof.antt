@@ -9,7 +9,7 @@ use Rattle.wide.specs.declared.Wide.{Wide}
 use Rattle.wide.specs.Words.{value, jammed}
 use Rattle.operands.specs.Machine.{Ready, Addends}
 use Rattle.ieee754.specs.Operations.{sumTo}
-use Rattle.multiply_add.proofs.Sums.{ready-pos, ready-sum, ready-pick, exponent-pick, align-answer}
+use Rattle.multiply_add.proofs.Sums.{ready-pos, ready-shifted, ready-pick, exponent-pick, align-answer}
 use Rattle.multiply_add.proofs.align.Statement.{statement}
 use Rattle.multiply_add.proofs.align.Tie as tie
 
@@ -59,7 +59,7 @@ add-signed-requires c κs =
     let b = ltb (a .pe) (a .qe) in
     let X : Ready (value (x .pick .result)) = subst (λ (w : Wide). Ready (value w)) (sym (x .pick .ensures)) (ready-pick (a .p) (a .q) (a .pe) (a .qe) b (s .pre .0) (s .pre .1)) in
     let Y : Ready (value (w1 .before .pick2 .result)) = subst (λ (w : Wide). Ready (value w)) (sym (w1 .before .pick2 .ensures)) (ready-pick (a .q) (a .p) (a .qe) (a .pe) b (s .pre .1) (s .pre .0)) in
-    (subst (λ (n : ℕ). n ≤ 4194) (sym (w1 .pick-word .ensures)) (most b (a .pe) (a .qe) (s .pre .2) (s .pre .3)), ready-pos X, ready-sum (w1 .pick-word .result - j .before .pick-word2 .result) X Y (j .shift-right-jam .ensures))
+    (subst (λ (n : ℕ). n ≤ 4194) (sym (w1 .pick-word .ensures)) (most b (a .pe) (a .qe) (s .pre .2) (s .pre .3)), ready-pos X, X .high, ready-shifted (w1 .pick-word .result - j .before .pick-word2 .result) Y (j .shift-right-jam .ensures))
 
 returns : tie.Need-returns
 returns c =

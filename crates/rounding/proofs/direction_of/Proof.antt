@@ -1,6 +1,6 @@
 -- `rounding::direction_of` meets its contract. Assumes nothing.
 use mathlib.Core.Path.{refl}
-use borrow.Author.Tests.{eq-eqb, ne-eqb}
+use borrow.Author.Tests.{ne-eqb}
 use Rattle.rounding.proofs.direction_of.Statement.{statement}
 use Rattle.rounding.proofs.direction_of.Tie as tie
 

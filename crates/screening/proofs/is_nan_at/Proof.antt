@@ -1,26 +1,21 @@
 -- `screening::is_nan_at` meets its contract: the shift drops the sign and doubles the rest. Assumes nothing.
-use Prim.Native.Nat.{ℕ, _+_, _*_, _/_, _%_, _^_}
+use Prim.Native.Nat.{ℕ, _*_, _%_, _^_}
 use mathlib.Core.Path.{_≡_, refl, ap, _∙_}
 use mathlib.Core.Bool.{Bool, true, false}
 use native.Mathlib.Omega.{arith}
-use lib.Arith.{mod-mul}
-use lib.Dec.{ltb, lit<}
+use lib.Dec.{ltb}
+use Rattle.wide.proofs.Nat.{shl}
 use Rattle.screening.specs.Screening.{isNan}
 use borrow.Author.Needs.{needs}
 use borrow.Author.Tests.{ltb-true, ltb-false, lt-ltb, le-ltb}
 use Rattle.screening.proofs.is_nan_at.Statement.{statement}
 use Rattle.screening.proofs.is_nan_at.Tie as tie
 
-twice : (x : ℕ) → x * 2 % 2 ^ 64 ≡ x % 2 ^ 63 * 2
-twice x =
-    let half : x * 2 / 2 ≡ x = omega arith in
-    mod-mul (x * 2) {m = 2 ^ 63} {c = 2} (lit< tt) (lit< tt) ∙ ap (λ (k : ℕ). k % 2 ^ 63 * 2 + x * 2 % 2) half ∙ omega arith
-
 shifted : (c x : ℕ) → ltb (c * 2) (x * 2 % 2 ^ 64) ≡ ltb c (x % 2 ^ 63)
 shifted c x = told (ltb c (x % 2 ^ 63)) refl where
   told : (b : Bool) → ltb c (x % 2 ^ 63) ≡ b → ltb (c * 2) (x * 2 % 2 ^ 64) ≡ b
-  told true h = lt-ltb (c * 2) (x * 2 % 2 ^ 64) (omega (arith, twice x, ltb-true c (x % 2 ^ 63) h))
-  told false h = le-ltb (c * 2) (x * 2 % 2 ^ 64) (omega (arith, twice x, ltb-false c (x % 2 ^ 63) h))
+  told true h = lt-ltb (c * 2) (x * 2 % 2 ^ 64) (omega (arith, shl x 1 (omega arith), ltb-true c (x % 2 ^ 63) h))
+  told false h = le-ltb (c * 2) (x * 2 % 2 ^ 64) (omega (arith, shl x 1 (omega arith), ltb-false c (x % 2 ^ 63) h))
 
 read-u64-requires : tie.Need-read-u64-requires
 read-u64-requires c κs = search needs

@@ -1,0 +1,38 @@
+-- Worked examples of specs/Answers.antt, computed: kind 3 in each direction, and beside it kind 2. Assumes nothing.
+use Prim.Native.Nat.{ℕ}
+use mathlib.Core.Path.{_≡_, refl}
+use mathlib.Core.List.{List, [], _∷_, _++_, map}
+use lib.ListN.{length, replicate}
+use Rattle.words.specs.Bytes.{numberAt, wordBytes}
+use Rattle.ieee754.specs.Operations.{fusedBits}
+use Rattle.frames.specs.Frame.{isKind, kindOf, badPayload, refusalTo, refusalFrame}
+use Rattle.answers.specs.Answers.{Answer, directionIn, resultAt, resultsOf, accepted, answerTo}
+
+abbrev answer : List ℕ → Answer
+answer body = answerTo (length body) body
+
+abbrev triple : ℕ → ℕ → ℕ → List ℕ
+triple a b c = wordBytes a ++ (wordBytes b ++ wordBytes c)
+
+-- 1 * 1 + 2^-1074, and 1 * 1 - 1
+abbrev triples : List ℕ
+triples = triple 0x3ff0000000000000 0x3ff0000000000000 1 ++ triple 0x3ff0000000000000 0x3ff0000000000000 0xbff0000000000000
+
+abbrev results : ℕ → ℕ → Answer
+results x y = record { bytes = 0 ∷ 18 ∷ 1 ∷ 0 ∷ (wordBytes x ++ wordBytes y); number = 0 }
+
+-- in the directions 0 to 3; with the byte 4 it is refused, whose own answer has no results; kind 2 is to nearest
+pub in-each :
+    map (λ direction. answer (1 ∷ 3 ∷ direction ∷ triples)) (0 ∷ 1 ∷ 2 ∷ 3 ∷ 4 ∷ [])
+    ≡ results 0x3ff0000000000000 0
+    ∷ results 0x3ff0000000000000 0
+    ∷ results 0x3ff0000000000001 0
+    ∷ results 0x3ff0000000000000 0x8000000000000000
+    ∷ record { bytes = refusalFrame 11; number = 11 }
+    ∷ []
+unfolding answerTo accepted resultsOf resultAt directionIn refusalTo isKind kindOf badPayload numberAt wordBytes fusedBits
+in-each = refl
+
+pub to-nearest : answer (1 ∷ 2 ∷ triples) ≡ results 0x3ff0000000000000 0
+unfolding answerTo accepted resultsOf resultAt directionIn refusalTo isKind kindOf badPayload numberAt wordBytes fusedBits
+to-nearest = refl
