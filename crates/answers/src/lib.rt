@@ -40,7 +40,7 @@ fn result_at(kind: u8, dir: Direction, payload: &[u8], at: usize) -> u64
     let a = words::read_u64(payload, at);
     let b = words::read_u64(payload, at + 8);
     let c = words::read_u64(payload, at + 16);
-    multiply_add::fused_in(dir, a, b, c)
+    multiply_add::fused_in(a, b, c, dir)
 }
 
 // Writes the results of the first n items of a payload.

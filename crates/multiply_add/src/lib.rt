@@ -249,8 +249,8 @@ fn fused_special(dir: Direction, a: u64, b: u64, c: u64) -> u64
     fused_finite(dir, a, b, c)
 }
 
-// a * b + c, rounded once in the direction.
-pub fn fused_in(dir: Direction, a: u64, b: u64, c: u64) -> u64
+// a * b + c, rounded once in the direction. It comes last: fast_fused hands a, b and c on in the registers that they came in.
+pub fn fused_in(a: u64, b: u64, c: u64, dir: Direction) -> u64
     ensures { λ r. ⌜ r ≡ fusedBits dir a b c ⌝ }
 {
     if is_regular(a) {
@@ -272,7 +272,7 @@ pub fn fused_in(dir: Direction, a: u64, b: u64, c: u64) -> u64
 pub fn fused_nearest(a: u64, b: u64, c: u64) -> u64
     ensures { λ r. ⌜ r ≡ fusedBits Nearest a b c ⌝ }
 {
-    fused_in(Direction::Nearest, a, b, c)
+    fused_in(a, b, c, Direction::Nearest)
 }
 
 // a * b + c, rounded once in the direction that the byte names; a byte that names none is refused.
@@ -281,7 +281,7 @@ pub fn fused(direction: u8, a: u64, b: u64, c: u64) -> Reply
 {
     let named = rounding::direction_of(direction);
     match named {
-        Named::Known(dir) => Reply::Bits(fused_in(dir, a, b, c)),
+        Named::Known(dir) => Reply::Bits(fused_in(a, b, c, dir)),
         Named::Unknown => Reply::Refused(BAD_DIRECTION),
     }
 }
