@@ -34,26 +34,28 @@ input = one 1 1 0xc0 0x4b ++ (0 ∷ 0 ∷ 0 ∷ [])
 abbrev wholeCase : List Call
 wholeCase = handedOn emptyBook input (replicate 15 room) ++ (Close room ∷ [])
 
--- weights -54, 1024 and -54; an unfinished frame; closed twice; a frame with no body
+-- weights -54, 1024 and -54; kind 3 with a direction byte alone; an unfinished frame; closed twice; a frame with no body
 abbrev sent : List Call
 sent =
     Take (one 1 1 0xc0 0x4b) room
     ∷ Take (one 1 1 0x40 0x90) room
     ∷ Take (one 1 1 0xc0 0x4b) room
+    ∷ Take (0 ∷ 3 ∷ 1 ∷ 3 ∷ 0 ∷ []) room
     ∷ Take (0 ∷ 10 ∷ 1 ∷ []) room
     ∷ Close room
     ∷ Close room
     ∷ Take (0 ∷ 0 ∷ []) room
     ∷ []
 
--- 1024 became a NaN, the version of the third frame 255, and the third byte of the unfinished one 7; the first frame comes in two pieces, the
--- second with a byte too many, and before the last frame a take is refused by 6
+-- 1024 became a NaN, the version of the third frame 255, the direction byte 4, and the third byte of the unfinished frame 7; the first frame
+-- comes in two pieces, the second with a byte too many, and before the last frame a take is refused by 6
 abbrev damaged : List Call
 damaged =
     Take (0 ∷ 10 ∷ 1 ∷ []) room
     ∷ Take (drop 3 (one 1 1 0xc0 0x4b) ++ (0 ∷ [])) room
     ∷ Take (one 1 1 0x7f 0xff) room
     ∷ Take (one 0xff 1 0xc0 0x4b) room
+    ∷ Take (0 ∷ 3 ∷ 1 ∷ 3 ∷ 4 ∷ []) room
     ∷ Take (0 ∷ 10 ∷ 7 ∷ []) room
     ∷ Close room
     ∷ Close room
@@ -67,13 +69,14 @@ figures r = r .used ∷ r .len ∷ r .number ∷ []
 
 pub replies :
     (written (run wholeCase) ≡ one 1 0 0xbf 0xf0 ∷ refusalFrame 1 ∷ refusalFrame 8 ∷ [])
-    × (written (run sent) ≡ one 1 0 0xbf 0xf0 ∷ one 1 0 0x7f 0xf0 ∷ one 1 0 0xbf 0xf0 ∷ refusalFrame 8 ∷ refusalFrame 1 ∷ [])
-    × (written (run damaged) ≡ one 1 0 0xbf 0xf0 ∷ one 1 0 0x7f 0xf8 ∷ refusalFrame 3 ∷ refusalFrame 8 ∷ refusalFrame 1 ∷ [])
+    × (written (run sent) ≡ one 1 0 0xbf 0xf0 ∷ one 1 0 0x7f 0xf0 ∷ one 1 0 0xbf 0xf0 ∷ refusalFrame 5 ∷ refusalFrame 8 ∷ refusalFrame 1 ∷ [])
+    × (written (run damaged) ≡ one 1 0 0xbf 0xf0 ∷ one 1 0 0x7f 0xf8 ∷ refusalFrame 3 ∷ refusalFrame 11 ∷ refusalFrame 8 ∷ refusalFrame 1 ∷ [])
     × (map figures (run damaged)
     ≡ (3 ∷ 0 ∷ 0 ∷ [])
     ∷ (9 ∷ 12 ∷ 0 ∷ [])
     ∷ (12 ∷ 12 ∷ 0 ∷ [])
     ∷ (12 ∷ 4 ∷ 3 ∷ [])
+    ∷ (5 ∷ 4 ∷ 11 ∷ [])
     ∷ (3 ∷ 0 ∷ 0 ∷ [])
     ∷ (0 ∷ 4 ∷ 8 ∷ [])
     ∷ (0 ∷ 0 ∷ 0 ∷ [])

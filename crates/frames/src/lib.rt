@@ -87,13 +87,15 @@ fn bad_direction(byte: u8) -> u8
 fn own_refusal(kind: u8, payload: &[u8]) -> u8
     ensures { λ r. ⌜ r ≡ kindOf kind .own (now (payload .entry)) ⌝ }
 {
-    if kind != DIRECTED {
-        return 0;
+    if kind == DIRECTED {
+        if payload.len() == 0 {
+            0
+        } else {
+            bad_direction(payload[0])
+        }
+    } else {
+        0
     }
-    if payload.len() == 0 {
-        return 0;
-    }
-    bad_direction(payload[0])
 }
 
 // Whether a payload of n bytes is not what the kind has: at least one item, and whole items.

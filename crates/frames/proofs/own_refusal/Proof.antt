@@ -21,20 +21,20 @@ unfolding kindOf
 first e [] n = absurd (n refl)
 first e (b ∷ p) n = rw e refl
 
-returns : tie.Need-returns
-returns c = sym (none-own _ _ (c .if1 .taken))
-
-returns-2 : tie.Need-returns-2
-returns-2 c = sym (none (c .before .if1 .left) _ (c .if2 .taken))
-
 shared-slice-read-bad-direction : tie.Need-shared-slice-read-bad-direction
 shared-slice-read-bad-direction c = search needs
 
 bad-direction-requires : tie.Need-bad-direction-requires
 bad-direction-requires c κs = search needs
 
+returns : tie.Need-returns
+returns c = sym (none (c .before .if1 .taken) _ (c .if2 .taken))
+
+returns-2 : tie.Need-returns-2
+returns-2 c = c .bad-direction .ensures ∙ sym (first (c .before .before .before .if1 .taken) _ (c .before .before .if2 .left))
+
 returns-3 : tie.Need-returns-3
-returns-3 c = c .bad-direction .ensures ∙ sym (first (c .before .before .before .if1 .left) _ (c .before .before .if2 .left))
+returns-3 c = sym (none-own _ _ (c .if1 .left))
 
 pub own-refusal-spec : {M : Type 1} → statement M
-own-refusal-spec = tie.close (tie.spec returns returns-2 shared-slice-read-bad-direction bad-direction-requires returns-3)
+own-refusal-spec = tie.close (tie.spec shared-slice-read-bad-direction bad-direction-requires returns returns-2 returns-3)
