@@ -85,29 +85,31 @@ fn results(body: &[u8], operations: &Operations) -> Result<Vec<u64>, u8> {
         return Err(3);
     }
     match kind {
-        1 => each(payload, 1, |x| (operations.score)(x[0])),
-        2 => each(payload, 3, |x| (operations.fused)(x[0], x[1], x[2])),
+        1 => each(payload, |[x]| (operations.score)(x)),
+        2 => each(payload, |[a, b, c]| (operations.fused)(a, b, c)),
         3 => {
             // An empty payload has no direction byte.
             let (byte, triples) = payload.split_first().ok_or(5)?;
             let direction = Direction::of(*byte).ok_or(11)?;
-            let fused = |x: &[u64]| (operations.fused_in)(direction, x[0], x[1], x[2]);
-            each(triples, 3, fused)
+            each(triples, |[a, b, c]| {
+                (operations.fused_in)(direction, a, b, c)
+            })
         }
         _ => Err(4),
     }
 }
 
-/// The results of items of so many floats, or 5 where there is none or a part of one.
-fn each(items: &[u8], floats: usize, result: impl Fn(&[u64]) -> u64) -> Result<Vec<u64>, u8> {
-    let size = floats * FLOAT;
-    if items.is_empty() || !items.len().is_multiple_of(size) {
+/// The results of items of so many floats, or 5 where there is none, or a part of one.
+fn each<const FLOATS: usize>(
+    items: &[u8],
+    result: impl Fn([u64; FLOATS]) -> u64,
+) -> Result<Vec<u64>, u8> {
+    if items.is_empty() || !items.len().is_multiple_of(FLOATS * FLOAT) {
         return Err(5);
     }
-    Ok(items
-        .chunks(size)
-        .map(|item| result(&patterns(item)))
-        .collect())
+    let floats = patterns(items);
+    let (items, _) = floats.as_chunks();
+    Ok(items.iter().copied().map(result).collect())
 }
 
 pub fn patterns(bytes: &[u8]) -> Vec<u64> {
