@@ -11,7 +11,7 @@ use borrow.Author.Tests.{lt-ltb, le-ltb, le-leb, leb-true, leb-false, eq-eqb, ne
 use Rattle.rounding.specs.Named.{directionOf}
 use Rattle.rounding.specs.declared.Named.{Named}
 use Rattle.rounding.specs.declared.Named.the-variants.{Known, Unknown}
-use Rattle.frames.specs.Frame.{longestBody, kept, undirected, isKind, kindOf, itemsFrom, badPayload, orElse, refusalTo}
+use Rattle.frames.specs.Frame.{longestBody, kept, directionRefusal, isKind, kindOf, itemsFrom, badPayload, orElse, refusalTo}
 use Rattle.frames.specs.Body.{Body}
 
 -- the first of two numbers, where it is not 0
@@ -82,9 +82,9 @@ or-senders : (m : ℕ) {n : ℕ} → Senders m → Senders n → Senders (orElse
 or-senders zero h k = k
 or-senders (suc m) h k = h
 
-undirected-senders : (n : Named) → Senders (undirected n)
-undirected-senders (Known d) = inl (omega arith)
-undirected-senders Unknown = inr (omega arith)
+direction-senders : (n : Named) → Senders (directionRefusal n)
+direction-senders (Known d) = inl (omega arith)
+direction-senders Unknown = inr (omega arith)
 
 own-senders : (kind : ℕ) (payload : List ℕ) → Senders (kindOf kind .own payload)
 unfolding kindOf
@@ -92,7 +92,7 @@ own-senders zero p = inl (omega arith)
 own-senders (suc zero) p = inl (omega arith)
 own-senders (suc (suc zero)) p = inl (omega arith)
 own-senders (suc (suc (suc zero))) [] = inl (omega arith)
-own-senders (suc (suc (suc zero))) (b ∷ p) = undirected-senders (directionOf b)
+own-senders (suc (suc (suc zero))) (b ∷ p) = direction-senders (directionOf b)
 own-senders (suc (suc (suc (suc kind)))) p = inl (omega arith)
 
 pub refusal-senders : (n : ℕ) (b : List ℕ) → Senders (refusalTo n b)

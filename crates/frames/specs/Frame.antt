@@ -43,14 +43,14 @@ pub record Kind : Type 0 where
 abbrev pub plain : ℕ → Kind
 plain size = record { before = 0; own = λ payload. 0; item = size }
 
--- a direction byte, which is refused by 11 where it names none, and then triples
-abbrev pub undirected : Named → ℕ
-undirected (Known d) = 0
-undirected Unknown = 11
+-- a direction byte, refused by 11 where it names none, and then triples; an empty payload has no such byte
+abbrev pub directionRefusal : Named → ℕ
+directionRefusal (Known d) = 0
+directionRefusal Unknown = 11
 
 abbrev pub badDirection : List ℕ → ℕ
 badDirection [] = 0
-badDirection (b ∷ payload) = undirected (directionOf b)
+badDirection (b ∷ payload) = directionRefusal (directionOf b)
 
 abbrev pub directed : Kind
 directed = record { before = 1; own = badDirection; item = 24 }

@@ -7,7 +7,7 @@ ghost use mathlib.Core.List.{_∷_};
 ghost use Prim.Native.Nat.{_*_, _/_, _%_, _≤_, _<_};
 ghost use lib.ListN.{length, drop};
 ghost use Rattle.rounding.specs.Named.{directionOf};
-ghost use Rattle.frames.specs.Frame.{undirected, isKind, kindOf, itemsFrom, itemBytes, itemCount, badPayload, refusalTo};
+ghost use Rattle.frames.specs.Frame.{directionRefusal, isKind, kindOf, itemsFrom, itemBytes, itemCount, badPayload, refusalTo};
 ghost use Rattle.frames.specs.Body.{Body};
 ghost use Rattle.frames.specs.Part.{Part, payloadFrom};
 use rounding::BAD_DIRECTION;
@@ -74,7 +74,7 @@ fn is_kind(kind: u8) -> bool
 
 // The number by which a direction byte is refused, or 0.
 fn bad_direction(byte: u8) -> u8
-    ensures { λ r. ⌜ r ≡ undirected (directionOf byte) ⌝ }
+    ensures { λ r. ⌜ r ≡ directionRefusal (directionOf byte) ⌝ }
 {
     let named = rounding::direction_of(byte);
     match named {

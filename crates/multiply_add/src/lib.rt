@@ -249,7 +249,7 @@ fn fused_special(dir: Direction, a: u64, b: u64, c: u64) -> u64
     fused_finite(dir, a, b, c)
 }
 
-// a * b + c, rounded once in the direction. It comes last: fast_fused hands a, b and c on in the registers that they came in.
+// a * b + c, rounded once in the direction, which comes last: fast_fused hands a, b and c on in the registers that they came in.
 pub fn fused_in(a: u64, b: u64, c: u64, dir: Direction) -> u64
     ensures { λ r. ⌜ r ≡ fusedBits dir a b c ⌝ }
 {

@@ -5,7 +5,7 @@ use mathlib.Core.List.{List, [], _∷_}
 use native.Mathlib.Omega.{arith}
 use lib.ListN.{length, getD}
 use Rattle.rounding.specs.Named.{directionOf}
-use Rattle.frames.specs.Frame.{undirected, kindOf}
+use Rattle.frames.specs.Frame.{directionRefusal, kindOf}
 use Rattle.frames.proofs.Items.{none-own}
 use borrow.Author.Needs.{needs}
 use Rattle.frames.proofs.own_refusal.Statement.{statement}
@@ -16,7 +16,7 @@ unfolding kindOf
 none e [] z = rw e refl
 none e (b ∷ p) z = absurd (omega arith)
 
-first : {kind : ℕ} → kind ≡ 3 → (p : List ℕ) → (length p ≡ 0 → ⊥) → kindOf kind .own p ≡ undirected (directionOf (getD p 0 0))
+first : {kind : ℕ} → kind ≡ 3 → (p : List ℕ) → (length p ≡ 0 → ⊥) → kindOf kind .own p ≡ directionRefusal (directionOf (getD p 0 0))
 unfolding kindOf
 first e [] n = absurd (n refl)
 first e (b ∷ p) n = rw e refl
