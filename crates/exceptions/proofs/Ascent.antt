@@ -12,42 +12,42 @@ use lib.Ieee.Fits.{and-l, and-r}
 use Rattle.exceptions.specs.Table.{exceptions}
 use Rattle.exceptions.specs.declared.Stretch.{Stretch}
 use Rattle.exceptions.specs.declared.Stretch.the-variants.{First, Tiny, Wide}
-use Rattle.exceptions.specs.Lookup.{input, start, end, Ascending}
+use Rattle.exceptions.specs.Lookup.{entryAt, start, end, Ascending}
 use Rattle.exceptions.proofs.Order.{lt-trans}
 
 -- of the n entries after i each is finite and above the one before it
 rises : ℕ → ℕ → Bool
 rises i zero = true
-rises i (suc n) = lt (input i) (input (suc i)) && (finite (input (suc i)) && rises (suc i) n)
+rises i (suc n) = lt (entryAt i .x) (entryAt (suc i) .x) && (finite (entryAt (suc i) .x) && rises (suc i) n)
 
-table : (s : Stretch) → T (finite (input (start s)) && rises (start s) (end s - suc (start s)))
-unfolding rises input exceptions lt ofBits
+table : (s : Stretch) → T (finite (entryAt (start s) .x) && rises (start s) (end s - suc (start s)))
+unfolding rises entryAt exceptions lt ofBits
 table First = tt
 table Tiny = tt
 table Wide = tt
 
-above : (n i : ℕ) → T (finite (input i)) → T (rises i n) → (j : ℕ) → i < j → j ≤ i + n → T (lt (input i) (input j)) × T (finite (input j))
+above : (n i : ℕ) → T (finite (entryAt i .x)) → T (rises i n) → (j : ℕ) → i < j → j ≤ i + n → T (lt (entryAt i .x) (entryAt j .x)) × T (finite (entryAt j .x))
 unfolding rises
 above zero i F R j p q = let z : ⊥ = omega arith in absurd z
 above (suc n) i F R j p q =
-    let l = and-l (lt (input i) (input (suc i))) _ R in
-    let r = and-r (lt (input i) (input (suc i))) _ R in
-    let f = and-l (finite (input (suc i))) _ r in
+    let l = and-l (lt (entryAt i .x) (entryAt (suc i) .x)) _ R in
+    let r = and-r (lt (entryAt i .x) (entryAt (suc i) .x)) _ R in
+    let f = and-l (finite (entryAt (suc i) .x)) _ r in
     elim (eq-or-lt-of-le p) [
-      | inl e ↦ subst (λ (k : ℕ). T (lt (input i) (input k)) × T (finite (input k))) e (l, f)
+      | inl e ↦ subst (λ (k : ℕ). T (lt (entryAt i .x) (entryAt k .x)) × T (finite (entryAt k .x))) e (l, f)
       | inr k ↦
-          let h = above n (suc i) f (and-r (finite (input (suc i))) _ r) j k (omega arith) in
-          (lt-trans (input i) (input (suc i)) (input j) F f (h .1) l (h .0), h .1)
+          let h = above n (suc i) f (and-r (finite (entryAt (suc i) .x)) _ r) j k (omega arith) in
+          (lt-trans (entryAt i .x) (entryAt (suc i) .x) (entryAt j .x) F f (h .1) l (h .0), h .1)
     ]
 
-between : (n a : ℕ) → T (finite (input a)) → T (rises a n) → (i j : ℕ) → a ≤ i → i < j → j ≤ a + n → T (lt (input i) (input j))
+between : (n a : ℕ) → T (finite (entryAt a .x)) → T (rises a n) → (i j : ℕ) → a ≤ i → i < j → j ≤ a + n → T (lt (entryAt i .x) (entryAt j .x))
 unfolding rises
 between zero a F R i j o p q = let z : ⊥ = omega arith in absurd z
 between (suc n) a F R i j o p q =
-    let r = and-r (lt (input a) (input (suc a))) _ R in
+    let r = and-r (lt (entryAt a .x) (entryAt (suc a) .x)) _ R in
     elim (eq-or-lt-of-le o) [
-      | inl e ↦ subst (λ (k : ℕ). T (lt (input k) (input j))) e (above (suc n) a F R j (omega arith) q .0)
-      | inr k ↦ between n (suc a) (and-l (finite (input (suc a))) _ r) (and-r (finite (input (suc a))) _ r) i j k p (omega arith)
+      | inl e ↦ subst (λ (k : ℕ). T (lt (entryAt k .x) (entryAt j .x))) e (above (suc n) a F R j (omega arith) q .0)
+      | inr k ↦ between n (suc a) (and-l (finite (entryAt (suc a) .x)) _ r) (and-r (finite (entryAt (suc a) .x)) _ r) i j k p (omega arith)
     ]
 
 pub ascending : Ascending
@@ -59,17 +59,17 @@ ascending = record {
   whole = refl;
   finite-at = λ s i p q.
       elim (eq-or-lt-of-le p) [
-        | inl e ↦ subst (λ (k : ℕ). T (finite (input k))) e (starts s)
+        | inl e ↦ subst (λ (k : ℕ). T (finite (entryAt k .x))) e (starts s)
         | inr k ↦ above (end s - suc (start s)) (start s) (starts s) (goes-on s) i k (omega arith) .1
       ];
   ascends = λ s i j o p q. between (end s - suc (start s)) (start s) (starts s) (goes-on s) i j o p (omega arith);
 }
   where
-    starts : (s : Stretch) → T (finite (input (start s)))
-    starts s = and-l (finite (input (start s))) _ (table s)
+    starts : (s : Stretch) → T (finite (entryAt (start s) .x))
+    starts s = and-l (finite (entryAt (start s) .x)) _ (table s)
 
     goes-on : (s : Stretch) → T (rises (start s) (end s - suc (start s)))
-    goes-on s = and-r (finite (input (start s))) _ (table s)
+    goes-on s = and-r (finite (entryAt (start s) .x)) _ (table s)
 
 pub end-le : (s : Stretch) → end s ≤ 208
 end-le First = omega arith

@@ -3,4 +3,5 @@ pub mod Order
 pub mod Ascent
 pub mod Scan
 pub mod Halving
+mod Middle
 pub mod Replies

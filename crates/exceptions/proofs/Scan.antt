@@ -1,89 +1,73 @@
--- A scan steps over entries that are not x: it may start after them, or end before them. Assumes nothing.
+-- A search through the entries of a sequence, one after the other, steps over entries that are not x: it may start after them, or end before them. Assumes nothing.
 use mathlib.Core.Path.{_≡_, refl, sym, _∙_, ap, subst}
-use mathlib.Core.Logic.{inl, inr}
 use mathlib.Core.Bool.{Bool, true, false, cond}
-use Prim.Native.Nat.{ℕ, zero, suc, _+_, _-_, _<_, _≤_}
-use native.Mathlib.Nat.{eq-or-lt-of-le}
+use mathlib.Core.List.{List, [], _∷_}
+use Prim.Native.Nat.{ℕ, zero, suc, _+_, _<_, _≤_}
+use native.Mathlib.Nat.{le-of-suc-le-suc, not-suc-le-zero, zero-lt-suc}
 use native.Mathlib.Omega.{arith}
 use lib.Dec.{T}
+use lib.ListN.{length}
 use lib.Ieee.{Float, eq}
-use Rattle.exceptions.specs.declared.Stretch.{Stretch}
-use Rattle.exceptions.specs.declared.Stretch.the-variants.{First, Tiny, Wide}
+use Rattle.exceptions.specs.declared.Entry.{Entry}
 use Rattle.exceptions.specs.declared.Found.{Found}
 use Rattle.exceptions.specs.declared.Found.the-variants.{Reply, Nothing}
-use Rattle.exceptions.specs.Lookup.{input, reply, start, end, scan, find, Finds, present, absent}
-
-abbrev pub Misses : Float → ℕ → ℕ → Type 0
-Misses x a b = (j : ℕ) → a ≤ j → j < b → T (eq x (input j)) → ⊥
+use Rattle.exceptions.specs.Lookup.{replyOf, find, nth, entriesFrom, Finds, present, absent}
 
 no : (b : Bool) → (T b → ⊥) → b ≡ false
 no true h = absurd (h tt)
 no false h = refl
 
-pub none : (x : Float) (n i : ℕ) → Misses x i (i + n) → scan i n x ≡ Nothing
-unfolding scan
-none x zero i h = refl
-none x (suc n) i h =
-    ap (λ (b : Bool). cond b (Reply (reply i)) (scan (suc i) n x)) (no (eq x (input i)) (h i (omega arith) (omega arith)))
-    ∙ none x n (suc i) (λ j p q. h j (omega arith) (omega arith))
+module _ (entry : ℕ → Entry) where
+  abbrev pub scan : ℕ → ℕ → Float → Found
+  scan i n x = find (entriesFrom entry i n) x
 
--- the first k miss
-pub skip : (x : Float) (k n N i I : ℕ) → N ≡ k + n → I ≡ i + k → Misses x i I → scan i N x ≡ scan I n x
-unfolding scan
-skip x zero n N i I p q h =
-    let p' : N ≡ n = omega arith in
-    let q' : I ≡ i = omega arith in
-    cc
-skip x (suc k) n zero i I p q h = let z : ⊥ = omega arith in absurd z
-skip x (suc k) n (suc N) i I p q h =
-    ap (λ (b : Bool). cond b (Reply (reply i)) (scan (suc i) N x)) (no (eq x (input i)) (h i (omega arith) (omega arith)))
-    ∙ skip x k n N (suc i) I (omega arith) (omega arith) (λ j a b. h j (omega arith) b)
+  abbrev pub Misses : Float → ℕ → ℕ → Type 0
+  Misses x a b = (j : ℕ) → a ≤ j → j < b → T (eq x (entry j .x)) → ⊥
 
--- all after the first k miss
-pub cut : (x : Float) (k N i : ℕ) → k ≤ N → Misses x (i + k) (i + N) → scan i N x ≡ scan i k x
-unfolding scan
-cut x zero N i p h = none x N i (λ j a b. h j (omega arith) b)
-cut x (suc k) zero i p h = let z : ⊥ = omega arith in absurd z
-cut x (suc k) (suc N) i p h =
-    ap (λ (f : Found). cond (eq x (input i)) (Reply (reply i)) f) (cut x k N (suc i) (omega arith) (λ j a b. h j (omega arith) (omega arith)))
+  pub none : (x : Float) (n i : ℕ) → Misses x i (i + n) → scan i n x ≡ Nothing
+  unfolding find entriesFrom
+  none x zero i h = refl
+  none x (suc n) i h =
+      ap (λ (b : Bool). cond b (Reply (replyOf (entry i))) (scan (suc i) n x)) (no (eq x (entry i .x)) (h i (omega arith) (omega arith)))
+      ∙ none x n (suc i) (λ j p q. h j (omega arith) (omega arith))
 
--- the first k miss, and the next one is hit
-pub hit : (x : Float) (k n N i I : ℕ) → N ≡ k + suc n → I ≡ i + k → Misses x i I → eq x (input I) ≡ true → scan i N x ≡ Reply (reply I)
-unfolding scan
-hit x k n N i I p q h e =
-    skip x k (suc n) N i I p q h ∙ ap (λ (b : Bool). cond b (Reply (reply I)) (scan (suc I) n x)) e
+  -- the first k miss
+  pub skip : (x : Float) (k n N i I : ℕ) → N ≡ k + n → I ≡ i + k → Misses x i I → scan i N x ≡ scan I n x
+  unfolding find entriesFrom
+  skip x zero n N i I p q h =
+      let p' : N ≡ n = omega arith in
+      let q' : I ≡ i = omega arith in
+      cc
+  skip x (suc k) n zero i I p q h = let z : ⊥ = omega arith in absurd z
+  skip x (suc k) n (suc N) i I p q h =
+      ap (λ (b : Bool). cond b (Reply (replyOf (entry i))) (scan (suc i) N x)) (no (eq x (entry i .x)) (h i (omega arith) (omega arith)))
+      ∙ skip x k n N (suc i) I (omega arith) (omega arith) (λ j a b. h j (omega arith) b)
 
--- ---- what a scan finds is an entry that is x, and where it finds none there is none
-data Scanned (x : Float) (i n : ℕ) : Found → Type 0 where
-  here : (j : ℕ) → i ≤ j → j < i + n → T (eq x (input j)) → Scanned x i n (Reply (reply j))
-  nowhere : Misses x i (i + n) → Scanned x i n Nothing
+  -- all after the first k miss
+  pub cut : (x : Float) (k N i : ℕ) → k ≤ N → Misses x (i + k) (i + N) → scan i N x ≡ scan i k x
+  unfolding find entriesFrom
+  cut x zero N i p h = none x N i (λ j a b. h j (omega arith) b)
+  cut x (suc k) zero i p h = let z : ⊥ = omega arith in absurd z
+  cut x (suc k) (suc N) i p h =
+      ap (λ (f : Found). cond (eq x (entry i .x)) (Reply (replyOf (entry i))) f) (cut x k N (suc i) (omega arith) (λ j a b. h j (omega arith) (omega arith)))
 
-scanned : (x : Float) (n i : ℕ) → Scanned x i n (scan i n x)
-unfolding scan
-scanned x zero i = nowhere (λ j p q. let z : ⊥ = omega arith in absurd z)
-scanned x (suc n) i = go (eq x (input i)) refl (scan (suc i) n x) (scanned x n (suc i))
-  where
-    go : (b : Bool) → eq x (input i) ≡ b → (r : Found) → Scanned x (suc i) n r → Scanned x i (suc n) (cond b (Reply (reply i)) r)
-    go true e r s = here i (omega arith) (omega arith) (subst T (sym e) tt)
-    go false e r (here j p q h) = here j (omega arith) (omega arith) h
-    go false e r (nowhere m) = nowhere (λ j p q h.
-        elim (eq-or-lt-of-le p) [
-          | inl k ↦ subst T e (subst (λ (o : ℕ). T (eq x (input o))) (sym k) h)
-          | inr k ↦ m j k (omega arith) h
-        ])
+  -- the first k miss, and the next one is hit
+  pub hit : (x : Float) (k n N i I : ℕ) → N ≡ k + suc n → I ≡ i + k → Misses x i I → eq x (entry I .x) ≡ true → scan i N x ≡ Reply (replyOf (entry I))
+  unfolding find entriesFrom
+  hit x k n N i I p q h e =
+      skip x k (suc n) N i I p q h ∙ ap (λ (b : Bool). cond b (Reply (replyOf (entry I))) (scan (suc I) n x)) e
 
-whole : (s : Stretch) → start s + (end s - start s) ≡ end s
-whole First = refl
-whole Tiny = refl
-whole Wide = refl
-
-pub finds : (s : Stretch) (x : Float) → Finds s x (find s x)
+-- ---- what is found in a list is an entry that is x, and where nothing is found there is none
+pub finds : (list : List Entry) (x : Float) → Finds list x (find list x)
 unfolding find
-finds s x = go (scan (start s) (end s - start s) x) (scanned x (end s - start s) (start s))
+finds [] x = absent (λ i p h. not-suc-le-zero p)
+finds (e ∷ es) x = go (eq x (e .x)) refl (find es x) (finds es x)
   where
-    past : start s + (end s - start s) ≡ end s
-    past = whole s
-
-    go : (r : Found) → Scanned x (start s) (end s - start s) r → Finds s x r
-    go r (here j p q h) = present j p (subst (λ (n : ℕ). j < n) past q) h
-    go r (nowhere m) = absent (λ j p q h. m j p (subst (λ (n : ℕ). j < n) (sym past) q) h)
+    go : (b : Bool) → eq x (e .x) ≡ b → (r : Found) → Finds es x r → Finds (e ∷ es) x (cond b (Reply (replyOf e)) r)
+    go true h r f = present zero (zero-lt-suc _) (subst T (sym h) tt)
+    go false h r (present i p k) = present (suc i) (omega arith) k
+    go false h r (absent m) = absent (λ i. missed i)
+      where
+        missed : (i : ℕ) → i < length (e ∷ es) → T (eq x (nth (e ∷ es) i .x)) → ⊥
+        missed zero p k = subst T h k
+        missed (suc i) p k = m i (le-of-suc-le-suc p) k

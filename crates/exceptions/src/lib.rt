@@ -1,7 +1,8 @@
 // The exceptional cases of exp2m1, hard to round with double-double arithmetic, and their lookup.
 //
 // exception promises the reply of the entry of a stretch whose x equals the one asked for, or that there is no such entry
-// (specs/Lookup.antt). The entries are those of specs/Table.antt; each stretch of them ascends strictly by x (Ascending).
+// (specs/Lookup.antt). The entries are those of specs/Table.antt; each stretch of them ascends strictly by x (Ascending). The definitions
+// of a lookup, and the laws of a search by halves, are about any list of entries: exception_list uses them for a lent one.
 
 mod table;
 
@@ -9,7 +10,15 @@ use table::EXCEPTIONS;
 ghost use mathlib.Core.Path.{_≡_};
 ghost use Prim.Native.Nat.{_-_};
 ghost use Rattle.exceptions.specs.Table.{exceptions};
-ghost use Rattle.exceptions.specs.Lookup.{start, end, scan, find, Finds, Part};
+ghost use Rattle.exceptions.specs.Lookup.{start, end, entryAt, entriesFrom, entries, find, Finds, Part};
+
+// An exceptional case x, and its reply hi + lo.
+#[repr(C)]
+pub struct Entry {
+    pub x: f64,
+    pub hi: f64,
+    pub lo: f64,
+}
 
 // The stretches of the table: of step 5, and of step 8 with |x| <= 1/8 and with |x| > 1/8.
 pub enum Stretch {
@@ -26,7 +35,7 @@ pub enum Found {
 // The reply for x from the entries first to past - 1 of the table, which are sorted by input value.
 fn lookup_exception(table: &[f64; 624], first: usize, past: usize, x: f64) -> Found
     requires { ⌜ (now table ≡ exceptions) × Part first past ⌝ }
-    ensures { λ r. ⌜ r ≡ scan first (past - first) x ⌝ }
+    ensures { λ r. ⌜ r ≡ find (entriesFrom entryAt first (past - first)) x ⌝ }
 {
     if first >= past {
         return Found::Nothing;
@@ -69,8 +78,8 @@ fn end_of(stretch: Stretch) -> usize
 
 // The reply of the entry of the stretch whose x equals the given one.
 pub fn exception(stretch: Stretch, x: f64) -> Found
-    ensures { λ r. ⌜ r ≡ find stretch x ⌝ }
-    ensures exactly { λ r. ⌜ Finds stretch x r ⌝ }
+    ensures { λ r. ⌜ r ≡ find (entries stretch) x ⌝ }
+    ensures exactly { λ r. ⌜ Finds (entries stretch) x r ⌝ }
 {
     let first = start_of(stretch);
     let past = end_of(stretch);

@@ -10,7 +10,7 @@ use Rattle.pair.specs.declared.Pair.{Pair}
 use Rattle.pair.specs.Pair.{bits, pair}
 use Rattle.double_double.specs.Pairs.{fma, fastTwoSum, aMul, sMul}
 use Rattle.exceptions.specs.declared.Stretch.the-variants.{Wide}
-use Rattle.exceptions.specs.Lookup.{find, orElse}
+use Rattle.exceptions.specs.Lookup.{find, orElse, entries}
 use Rattle.exponential.specs.Constants.{LN2H, LN2L}
 use Rattle.exponential.specs.Exponential.{exp1, exp2}
 use Rattle.exp2m1_tiny.specs.declared.Estimate.{Estimate}
@@ -67,4 +67,4 @@ unfoldable pub exp2m1Accurate : Float → Float
 exp2m1Accurate x =
     let ax = toBits binary64 x % 2 ^ 63 in
     let p = subtractOne x (exp2 x) in
-    cond (leb ax 0x3fc0000000000000) (exp2m1AccurateTiny x) (orElse (find Wide x) (add binary64 (p .hi) (p .lo)))
+    cond (leb ax 0x3fc0000000000000) (exp2m1AccurateTiny x) (orElse (find (entries Wide) x) (add binary64 (p .hi) (p .lo)))

@@ -1,6 +1,8 @@
 -- What the phases ask of a weight. Definitions only.
 use mathlib.Core.Path.{_≡_}
+use mathlib.Core.Bool.{Bool, false, cond}
 use Prim.Native.Nat.{ℕ, _≤_, _<_, _%_, _^_}
+use lib.Dec.{leb}
 use lib.IntN.{pos, negsuc}
 use lib.Ieee.{Float, binary64, toBits, ofInt}
 
@@ -13,3 +15,7 @@ pub record Bounded (x : Float) : Type 0 where
 pub data Whole (i : Float) : Type 0 where
   natural : (n : ℕ) → n ≤ 53 → i ≡ ofInt binary64 (pos n) → Whole i
   negative : (n : ℕ) → n ≤ 1024 → i ≡ ofInt binary64 (negsuc n) → Whole i
+
+-- step 5 decides the weight with the bits ux
+unfoldable pub isSmall : ℕ → Bool
+isSmall ux = let ax = ux % 2 ^ 63 in cond (leb ax 0x3970000000000000) false (leb ax 0x3cc0527dbd87e24d)

@@ -1,7 +1,8 @@
 // 2^x - 1 for a binary64 x: the module exp2m1.rs, with its names, order, operands and association.
 //
 // score promises, for every 64-bit pattern, the pattern that scoreBits of specs/Score.antt gives: document 01's steps 1 to 8 over IEEE
-// operations. The phases promise the definitions of their names in specs/Phases.antt.
+// operations. score_found promises the same steps with a list of entries in step 5 that the caller has looked through (scoreWith). The
+// phases promise the definitions of their names in specs/Phases.antt.
 
 use double_double::a_mul;
 use double_double::fast_two_sum;
@@ -17,10 +18,13 @@ ghost use Prim.Native.Nat.{_%_, _^_, _<_};
 ghost use lib.Dec.{leb};
 ghost use lib.Ieee.{binary64, toBits};
 ghost use Rattle.exp2m1.specs.Phases.{exp2m1Scaled, exp2m1TwoTerms, exp2m1Whole, subtractOne, exp2m1Fast, exp2m1Accurate};
-ghost use Rattle.exp2m1.specs.Score.{isWhole, rounded, steps, scoreBits};
-ghost use Rattle.exp2m1.specs.Range.{Bounded, Whole};
+ghost use Rattle.exp2m1.specs.Score.{isWhole, rounded, steps, scoreWith, scoreBits};
+ghost use Rattle.exp2m1.specs.Range.{Bounded, Whole, isSmall};
+ghost use mathlib.Core.List.{List};
+ghost use Rattle.pair.specs.Pair.{bits};
+ghost use Rattle.exceptions.specs.declared.Entry.{Entry};
 ghost use Rattle.exceptions.specs.declared.Stretch.the-variants.{First};
-ghost use Rattle.exceptions.specs.Lookup.{find, orElse};
+ghost use Rattle.exceptions.specs.Lookup.{find, orElse, entries};
 
 const MINUS_ONE: f64 = -1.0;
 
@@ -34,6 +38,11 @@ const C2: f64 = f64::from_bits(0x3fcebfbdff82c58f); // 0x1.ebfbdff82c58fp-3, log
 
 const FAST_ERROR: f64 = f64::from_bits(0x3b84200000000000); // 0x1.42p-71 > 2^-70.67
 
+// The bits of |x| up to which step 4 decides, 2^-104, and up to which step 5 does, 0x1.0527dbd87e24dp-51.
+const SCALED: u64 = 0x3970000000000000;
+
+const SMALL: u64 = 0x3cc0527dbd87e24d;
+
 // The score of the weight with the bits x: the bits of 2^x - 1.
 pub fn score(x: u64) -> u64
     ensures { λ r. ⌜ r ≡ scoreBits x ⌝ }
@@ -41,15 +50,33 @@ pub fn score(x: u64) -> u64
     math::to_bits(exp2m1(math::from_bits(x)))
 }
 
+// The score where another list stands in for the first table of exceptional cases, and has found for x.
+pub fn score_found(x: u64, found: Found) -> u64
+    ensures { λ r. ⌜ ((list : List Entry) → found ≡ find list (bits x) → r ≡ scoreWith list x) ⌝ }
+{
+    if is_small(x) {
+        return math::to_bits(found_or_two_terms(found, math::from_bits(x)));
+    }
+    score(x)
+}
+
+// Whether step 5 decides the weight with the bits ux.
+fn is_small(ux: u64) -> bool
+    ensures { λ r. ⌜ r ≡ isSmall ux ⌝ }
+{
+    let ax = ux % 0x8000000000000000;
+    if ax <= SCALED { false } else { ax <= SMALL }
+}
+
 // Base-2 exponential minus one: 2^x - 1.
 fn exp2m1(x: f64) -> f64
-    ensures { λ r. ⌜ r ≡ steps (toBits binary64 x) x ⌝ }
+    ensures { λ r. ⌜ r ≡ steps (entries First) (toBits binary64 x) x ⌝ }
 {
     cr_exp2m1(x)
 }
 
 fn cr_exp2m1(x: f64) -> f64
-    ensures { λ r. ⌜ r ≡ steps (toBits binary64 x) x ⌝ }
+    ensures { λ r. ⌜ r ≡ steps (entries First) (toBits binary64 x) x ⌝ }
 {
     let ux = math::to_bits(x);
     let ax = ux % 0x8000000000000000;
@@ -66,7 +93,7 @@ fn cr_exp2m1(x: f64) -> f64
         return f64::from_bits(0x7ff0000000000000);
     }
     // |x| <= 2^-104
-    if ax <= 0x3970000000000000 {
+    if ax <= SCALED {
         // special case for 0
         if x == 0.0 {
             return x;
@@ -74,7 +101,7 @@ fn cr_exp2m1(x: f64) -> f64
         return exp2m1_scaled(x);
     }
     // 2^-104 < |x| <= 0x1.0527dbd87e24dp-51
-    if ax <= 0x3cc0527dbd87e24d {
+    if ax <= SMALL {
         return exp2m1_small(x);
     }
     // 2^x-1 is exact for x integer, -53 <= x <= 53
@@ -122,9 +149,15 @@ fn exp2m1_scaled(x: f64) -> f64
 
 // 2^-104 < |x| <= 0x1.0527dbd87e24dp-51: the exceptional cases, then two terms of the Taylor expansion.
 fn exp2m1_small(x: f64) -> f64
-    ensures { λ r. ⌜ r ≡ orElse (find First x) (exp2m1TwoTerms x) ⌝ }
+    ensures { λ r. ⌜ r ≡ orElse (find (entries First) x) (exp2m1TwoTerms x) ⌝ }
 {
-    if let Found::Reply(result) = exceptions::exception(Stretch::First, x) {
+    found_or_two_terms(exceptions::exception(Stretch::First, x), x)
+}
+
+fn found_or_two_terms(found: Found, x: f64) -> f64
+    ensures { λ r. ⌜ r ≡ orElse found (exp2m1TwoTerms x) ⌝ }
+{
+    if let Found::Reply(result) = found {
         return result;
     }
     exp2m1_two_terms(x)

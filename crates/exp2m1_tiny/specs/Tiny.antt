@@ -4,7 +4,7 @@ use Rattle.pair.specs.declared.Pair.{Pair}
 use Rattle.pair.specs.Pair.{bits, pair}
 use Rattle.double_double.specs.Pairs.{fma, fastTwoSum, fastSum, aMul, sMul}
 use Rattle.exceptions.specs.declared.Stretch.the-variants.{Tiny}
-use Rattle.exceptions.specs.Lookup.{find, orElse}
+use Rattle.exceptions.specs.Lookup.{find, orElse, entries}
 use Rattle.exp2m1_tiny.specs.declared.Estimate.{Estimate}
 use Rattle.exp2m1_tiny.specs.Coefficients.{P, Q}
 
@@ -73,4 +73,4 @@ polynomialQ x =
 unfoldable pub exp2m1AccurateTiny : Float → Float
 exp2m1AccurateTiny x =
     let p = polynomialQ x in
-    orElse (find Tiny x) (add binary64 (p .hi) (p .lo))
+    orElse (find (entries Tiny) x) (add binary64 (p .hi) (p .lo))

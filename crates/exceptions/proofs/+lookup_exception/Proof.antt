@@ -1,7 +1,8 @@
--- `exceptions::lookup_exception` meets its contract: each look at the middle entry hands the scan on to one half (Halving), and the width past - first falls. Assumes nothing.
+-- `exceptions::lookup_exception` meets its contract: each look at the middle entry hands the scan on to one half (Middle), and the width past - first falls. Assumes nothing.
 use Prim.Native.Nat.{ℕ, _-_, _<_}
 use native.Mathlib.Omega.{arith}
-use Rattle.exceptions.proofs.Halving.{hit-at, left-at, right-at, empty, narrow, part-end}
+use Rattle.exceptions.proofs.Halving.{empty}
+use Rattle.exceptions.proofs.Middle.{hit-at, left-at, right-at, narrow, part-end}
 use borrow.Fn.Kinds.{In}
 use borrow.Fn.PlainCycle.{Measures, is, falls, and}
 use Rattle.exceptions.proofs.lookup_exception.Reads as lookup-exception
@@ -37,7 +38,7 @@ pub +lookup-exception-spec : {M : Type 1} → statement M
     (lookup-exception-at t)
     lookup-exception.Post
     -- no entries
-    (λ c. empty _ _ _ (c .if1 .taken))
+    (λ c. empty _ _ _ _ (c .if1 .taken))
     -- the middle entry is one of the table
     (λ c. omega arith)
     (λ c. record { fits = omega (arith, part-end (c .before .pre .1 .1)) })

@@ -1,4 +1,4 @@
--- `exceptions::exception` meets its contract: the constant table is the definition's, number by number, and the scan of a stretch finds what it should (Scan). Assumes nothing.
+-- `exceptions::exception` meets its contract: the constant table is the definition's, number by number, and the search through a stretch finds what it should (Scan). Assumes nothing.
 use mathlib.Core.Path.{_≡_, refl, sym, subst}
 use Prim.Native.Nat.{ℕ, _-_}
 use native.Mathlib.Nat.{le-of-eq}
@@ -7,7 +7,7 @@ use lib.Ieee.{Float}
 use Rattle.exceptions.specs.Table.{exceptions}
 use Rattle.exceptions.specs.declared.Stretch.{Stretch}
 use Rattle.exceptions.specs.declared.Found.{Found}
-use Rattle.exceptions.specs.Lookup.{start, end, scan, find, Finds}
+use Rattle.exceptions.specs.Lookup.{start, end, entryAt, entriesFrom, entries, find, Finds}
 use Rattle.exceptions.proofs.Scan.{finds}
 use Rattle.exceptions.proofs.exception.Statement.{statement}
 use Rattle.exceptions.proofs.exception.Tie as tie
@@ -23,15 +23,15 @@ lookup-exception-requires c κs = (
   },
 )
 
-found : (s : Stretch) (x : Float) {a b : ℕ} {r : Found} → a ≡ start s → b ≡ end s → r ≡ scan a (b - a) x → r ≡ find s x
-unfolding find
+found : (s : Stretch) (x : Float) {a b : ℕ} {r : Found} → a ≡ start s → b ≡ end s → r ≡ find (entriesFrom entryAt a (b - a)) x → r ≡ find (entries s) x
+unfolding entries
 found s x p q e = cc
 
 returns : tie.Need-returns
 returns c =
     let s = c .before .before .before .before in
     let e = found (s .args .stretch) (s .args .x) (c .before .before .before .start-of .ensures) (c .before .before .end-of .ensures) (c .lookup-exception .ensures) in
-    (e, subst (λ (r : Found). Finds (s .args .stretch) (s .args .x) r) (sym e) (finds (s .args .stretch) (s .args .x)))
+    (e, subst (λ (r : Found). Finds (entries (s .args .stretch)) (s .args .x) r) (sym e) (finds (entries (s .args .stretch)) (s .args .x)))
 
 pub exception-spec : {M : Type 1} → statement M
 exception-spec = tie.close (tie.spec (λ c κs. search needs) (λ c κs. search needs) lookup-exception-requires returns)

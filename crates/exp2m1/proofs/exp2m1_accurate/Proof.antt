@@ -6,7 +6,7 @@ use lib.Ieee.{Float, binary64, add, toBits}
 use borrow.Author.Tests.{le-leb, lt-leb}
 use Rattle.pair.specs.declared.Pair.{Pair}
 use Rattle.exceptions.specs.declared.Stretch.the-variants.{Wide}
-use Rattle.exceptions.specs.Lookup.{find, orElse}
+use Rattle.exceptions.specs.Lookup.{find, orElse, entries}
 use Rattle.exponential.specs.Exponential.{exp2}
 use Rattle.exp2m1_tiny.specs.Tiny.{exp2m1AccurateTiny}
 use Rattle.exp2m1.specs.Phases.{subtractOne, exp2m1Accurate}
@@ -23,7 +23,7 @@ tiny x e h = rw (← e, le-leb _ _ h)
 abbrev sumOf : Pair → Float
 sumOf p = add binary64 (p .hi) (p .lo)
 
-wide : (x : Float) {u : ℕ} → u ≡ toBits binary64 x → 0x3fc0000000000000 < u % 2 ^ 63 → orElse (find Wide x) (sumOf (subtractOne x (exp2 x))) ≡ exp2m1Accurate x
+wide : (x : Float) {u : ℕ} → u ≡ toBits binary64 x → 0x3fc0000000000000 < u % 2 ^ 63 → orElse (find (entries Wide) x) (sumOf (subtractOne x (exp2 x))) ≡ exp2m1Accurate x
 unfolding exp2m1Accurate
 wide x e h = rw (← e, lt-leb _ _ h)
 

@@ -1,0 +1,5 @@
+-- Laws by which a walk over a lent list goes on: of its check, of the order of a good list, and of a search through it.
+pub mod Checked
+pub mod Rises
+pub mod Searched
+mod Examples

@@ -1,0 +1,28 @@
+-- Request A.4: which list of entries x, hi, lo is good, and what another is refused by. Definitions only.
+use mathlib.Core.Bool.{Bool, true, not, _&&_, cond}
+use mathlib.Core.List.{List, [], _∷_}
+use Prim.Native.Nat.{ℕ}
+use lib.Dec.{ltb}
+use lib.ListN.{length}
+use lib.Ieee.{Float, eq, lt}
+use lib.Ieee.Scale.{finite}
+use Rattle.pair.specs.Pair.{bits}
+use Rattle.exceptions.specs.declared.Entry.{Entry}
+
+-- "Entries must be finite", "with no x equal to zero"
+unfoldable pub isGood : Entry → Bool
+isGood e = finite (e .x) && (finite (e .hi) && (finite (e .lo) && not (eq (e .x) (bits 0))))
+
+unfoldable pub allGood : List Entry → Bool
+allGood [] = true
+allGood (e ∷ es) = isGood e && allGood es
+
+-- "strictly ascending by x": each x is below the next one
+unfoldable pub ascending : List Entry → Bool
+ascending [] = true
+ascending (e ∷ []) = true
+ascending (e ∷ f ∷ es) = lt (e .x) (f .x) && ascending (f ∷ es)
+
+-- "12, more than 256 entries; 13, an entry not finite, an x that is zero, or out of order; 12 first"; 0 for a good list
+unfoldable pub refusalOf : List Entry → ℕ
+refusalOf list = cond (ltb 256 (length list)) 12 (cond (allGood list && ascending list) 0 13)

@@ -1,0 +1,3 @@
+-- The built-in table, lent; and replies computed.
+pub mod Answers
+pub mod BuiltIn
