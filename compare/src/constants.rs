@@ -6,11 +6,8 @@ use std::io::{self, BufWriter, Read, Write};
 use crate::random::Random;
 use crate::reader::{self, BAD_TEXT, INEXACT, Reply};
 use crate::tally::{Mismatches, Tally};
-use crate::values::{FRACTION, SIGN};
+use crate::values::{FRACTION, SIGN, UNTOUCHED};
 use crate::{rust, texts};
-
-/// What the result holds before a call: a NaN, which no text gives.
-const UNTOUCHED: u64 = 0x7ff4eeeeeeeeeeee;
 
 /// Bytes that a mismatch shows of the front and of the end of a long text.
 const SHOWN: usize = 40;

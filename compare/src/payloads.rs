@@ -8,20 +8,9 @@ use crate::score;
 use crate::screen;
 use crate::service::{self, FLOAT};
 use crate::tally::{Mismatches, Tally};
+use crate::values::{INFINITIES, nan};
 
 const LONGEST: usize = 600;
-
-const INFINITIES: [u64; 2] = [0x7ff0000000000000, 0xfff0000000000000];
-
-/// The least NaN, the one that the weigher replies with and the largest, of either sign.
-const NANS: [u64; 6] = [
-    0x7ff0000000000001,
-    0x7ff8000000000000,
-    0x7fffffffffffffff,
-    0xfff0000000000001,
-    0xfff8000000000000,
-    0xffffffffffffffff,
-];
 
 /// Runs so many thousand bodies and payloads; false where a reply is wrong or an outcome never came.
 pub fn compare(thousands: u64) -> bool {
@@ -96,13 +85,6 @@ fn number(random: &mut Random) -> u64 {
         random.pick(&INFINITIES)
     } else {
         x
-    }
-}
-
-fn nan(random: &mut Random) -> u64 {
-    match random.below(2) {
-        0 => random.pick(&NANS),
-        _ => random.pick(&INFINITIES) | random.between(1, (1 << 52) - 1) as u64,
     }
 }
 

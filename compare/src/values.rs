@@ -67,6 +67,21 @@ pub const SPECIALS: [u64; 48] = [
     0x7ff8000000000000, // a quiet NaN
 ];
 
+pub const INFINITIES: [u64; 2] = [0x7ff0000000000000, 0xfff0000000000000];
+
+/// The least NaN, the one that the weigher replies with and the largest, of either sign.
+const NANS: [u64; 6] = [
+    0x7ff0000000000001,
+    0x7ff8000000000000,
+    0x7fffffffffffffff,
+    0xfff0000000000001,
+    0xfff8000000000000,
+    0xffffffffffffffff,
+];
+
+/// What a result holds before a call: a NaN, which no call gives.
+pub const UNTOUCHED: u64 = 0x7ff4eeeeeeeeeeee;
+
 pub fn both_signs(patterns: &[u64]) -> Vec<u64> {
     patterns.iter().flat_map(|&x| [x, x | SIGN]).collect()
 }
@@ -114,6 +129,13 @@ pub fn special(random: &mut Random) -> u64 {
     match random.below(2) {
         0 => random.pick(&SPECIALS) | (word & SIGN),
         _ => word,
+    }
+}
+
+pub fn nan(random: &mut Random) -> u64 {
+    match random.below(2) {
+        0 => random.pick(&NANS),
+        _ => random.pick(&INFINITIES) | random.between(1, FRACTION as i64) as u64,
     }
 }
 
