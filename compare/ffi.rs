@@ -2,7 +2,7 @@
 //! strtod and %a, and musl's fma where it is linked.
 //!
 //! Nothing checks these declarations against the C side. Those that take and return plain numbers are safe to call; those that are lent
-//! bytes, as a pointer and a length or with a 0 behind them, have a function over slices or strings here.
+//! bytes or entries, as a pointer and a length or with a 0 behind them, have a function over slices or strings here.
 
 use std::ffi::{CStr, c_char, c_int};
 use std::ptr;
@@ -55,6 +55,15 @@ pub struct Screened {
     pub number: usize,
 }
 
+/// An entry of a lent list.
+#[repr(C)]
+#[derive(Clone, Copy)]
+pub struct Entry {
+    pub x: f64,
+    pub hi: f64,
+    pub lo: f64,
+}
+
 /// The directions of request A.3, in the order of their bytes.
 #[repr(u8)]
 #[derive(Clone, Copy, PartialEq, Eq)]
@@ -87,6 +96,7 @@ unsafe extern "C" {
     pub safe fn weigher_floor(x: u64) -> u64;
     pub safe fn weigher_scale(x: u64, n: i32) -> u64;
     pub safe fn weigher_score(x: u64) -> u64;
+    fn weigher_score_with(list: *const Entry, list_length: usize, x: u64, score: *mut u64) -> u8;
     pub safe fn weigher_fresh() -> State;
     fn weigher_take(
         state: State,
@@ -160,6 +170,12 @@ pub fn constant(text: &[u8], result: &mut u64) -> u8 {
 pub fn fused_in(direction: u8, a: u64, b: u64, c: u64, result: &mut u64) -> u8 {
     // SAFETY: the result is lent to this call alone.
     unsafe { weigher_fused_in(direction, a, b, c, result) }
+}
+
+/// The refusal's number, or 0 and the score is written.
+pub fn score_with(list: &[Entry], x: u64, score: &mut u64) -> u8 {
+    // SAFETY: as in take; the score too is lent to this call alone.
+    unsafe { weigher_score_with(list.as_ptr(), list.len(), x, score) }
 }
 
 #[link(name = "fast_fused_c", kind = "static")]

@@ -1,5 +1,6 @@
 //! The weigher's operations and program beside the machine's, the Rust exp2m1, MPFR and a service written from document 01 and request A.3
-//! alone, and its reader of constants beside C's: test vectors and streams, comparisons and timings (see README.md).
+//! alone, its score with a lent list beside plain loops, and its reader of constants beside C's: test vectors and streams, comparisons and
+//! timings (see README.md).
 
 mod bench;
 mod book;
@@ -8,7 +9,10 @@ mod case;
 mod cases;
 mod constants;
 mod directions;
+mod entries;
 mod frames;
+mod listed;
+mod lists;
 mod machine;
 #[cfg(mpfr)]
 mod mpfr;
@@ -38,6 +42,7 @@ use std::io;
 use std::process::ExitCode;
 
 const USAGE: &str = "usage: compare run [MILLIONS] | compare mpfr [THOUSANDS] | compare streams [THOUSANDS] | compare calls [THOUSANDS]
+       compare lists [THOUSANDS]
        compare constants [THOUSANDS] | compare constant-lines | compare constant-replies
        compare bench | compare throughput [MEGABYTES] | compare serve [weigher] | compare vectors
        compare score-vectors | compare phase-vectors | compare check-score-vectors | compare screening-vectors
@@ -55,6 +60,8 @@ fn main() -> ExitCode {
         ["streams", thousands] => with_number(thousands, streams::compare),
         ["calls"] => succeeds(calls::compare(100)),
         ["calls", thousands] => with_number(thousands, calls::compare),
+        ["lists"] => succeeds(lists::compare(10)),
+        ["lists", thousands] => with_number(thousands, lists::compare),
         ["constants"] => succeeds(constants::compare(1000)),
         ["constants", thousands] => with_number(thousands, constants::compare),
         ["constant-lines"] => written(constants::write_lines()),

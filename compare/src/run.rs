@@ -8,7 +8,7 @@ use crate::values::SPECIALS;
 use crate::{directions, rust, score};
 
 /// Patterns on each side of a boundary or table entry of the score.
-const REACH: i64 = 1000;
+pub const REACH: i64 = 1000;
 
 /// Weights of each range for which the fast phase does not decide: so many, and as many for each million cases.
 const UNDECIDED: u64 = 10;

@@ -5,8 +5,10 @@ use std::{fs, io};
 
 #[cfg(exp2m1)]
 use exp2m1_recorded::calls::OPERANDS;
+use ffi::Entry;
 
 use crate::machine;
+use crate::score::is_of_step_5;
 
 /// exp2m1 over the machine's fma, the weigher's and musl's. There is none where compare was built without the source.
 pub const INSTANCES: &[(&str, fn(f64) -> f64)] = &[
@@ -112,22 +114,41 @@ fn last_pair(operands: &[(f64, f64, f64)]) -> Vec<f64> {
     vec![-minus_hi, a.mul_add(b, c)]
 }
 
-/// x of each entry of the exception tables: the first number of each line that has three.
+/// x of each entry of the exception tables.
 pub fn exceptions() -> Vec<u64> {
-    TEXT.lines()
-        .filter(|line| line.matches("hf64!").count() == 3)
-        .map(|line| first_number(line).expect("an entry of a table"))
+    entries().map(|entry| entry.x.to_bits()).collect()
+}
+
+/// The table of 56, of step 5; empty where there is no instance.
+pub fn first_table() -> Vec<Entry> {
+    entries()
+        .filter(|entry| is_of_step_5(entry.x.to_bits()))
         .collect()
 }
 
-/// The pattern of the first number, as in `(-hf64!("0x1.8p-3"), ..` and `(hf64!("-0x1.8p-3"), ..`.
-fn first_number(line: &str) -> Option<u64> {
-    let entry = line.trim_start().strip_prefix('(')?;
-    let (sign, rest) = entry.split_once("hf64!(\"")?;
-    let (number, _) = rest.split_once('"')?;
-    let size = hexadecimal(number.trim_start_matches('-'))?;
-    let negative = sign == "-" || number.starts_with('-');
-    Some(if negative { -size } else { size }.to_bits())
+/// The entries of the exception tables: each line that has three numbers.
+fn entries() -> impl Iterator<Item = Entry> {
+    TEXT.lines()
+        .filter(|line| line.matches("hf64!").count() == 3)
+        .map(|line| entry(line).expect("an entry of a table"))
+}
+
+/// The entry of a line. Its numbers are like `hf64!("0x1.8p-3")`, `-hf64!("0x1.8p-3")` and `hf64!("-0x1.8p-3")`.
+fn entry(line: &str) -> Option<Entry> {
+    let mut parts = line.split("hf64!(\"");
+    let mut front = parts.next()?;
+    let mut number = || {
+        let (text, rest) = parts.next()?.split_once('"')?;
+        let size = hexadecimal(text.trim_start_matches('-'))?;
+        let negative = front.ends_with('-') || text.starts_with('-');
+        front = rest;
+        Some(if negative { -size } else { size })
+    };
+    Some(Entry {
+        x: number()?,
+        hi: number()?,
+        lo: number()?,
+    })
 }
 
 /// The float that a text like 0x1.8p-3 stands for.

@@ -7,15 +7,16 @@ use crate::rust;
 use crate::steps::step;
 use crate::values::{SIGN, SPECIALS, beside, both_signs, float, linear, special};
 
-/// The largest sizes of step 5 and of the tiny weights, 0.125.
-const STEP_5: u64 = 0x3cc0527dbd87e24d;
+/// The largest sizes of step 4, 2^-104, of step 5 and of the tiny weights, 0.125.
+pub const STEP_4: u64 = 0x3970000000000000;
+pub const STEP_5: u64 = 0x3cc0527dbd87e24d;
 const TINY: u64 = 0x3fc0000000000000;
 
 /// The sizes at which a range ends.
 const BOUNDARIES: [u64; 9] = [
     0x0000000000000000,
     0x00171547652b82fe, // the least weight whose score is normal
-    0x3970000000000000, // 2^-104, step 4
+    STEP_4,
     STEP_5,
     TINY,
     0x404a800000000000, // 53, step 6
@@ -25,7 +26,7 @@ const BOUNDARIES: [u64; 9] = [
 ];
 
 /// The bench values of document 01.
-const BENCH: [u64; 14] = [
+pub const BENCH: [u64; 14] = [
     0xc04b000000000000, // -54
     0xfff0000000000000, // -infinity
     0x4090000000000000, // 1024
@@ -41,6 +42,10 @@ const BENCH: [u64; 14] = [
     0xbab1e3a6eaa49c6e,
     0xfff0000000000001, // a NaN
 ];
+
+pub fn is_of_step_5(x: u64) -> bool {
+    (STEP_4 + 1..=STEP_5).contains(&(x & !SIGN))
+}
 
 /// The boundaries and the table entries with so many patterns on each side, and the other fixed weights.
 pub fn edges(reach: i64) -> Vec<u64> {

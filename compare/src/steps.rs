@@ -96,6 +96,12 @@ const STEPS: [(&str, u64); 16] = [
     ("8, exp_2 with word 0x7ff", 10),
 ];
 
+/// The number of the step that answers x.
+pub fn number(x: u64) -> &'static str {
+    let (name, _) = STEPS[step(x) as usize];
+    &name[..1]
+}
+
 /// How many weights reached each step, and how many of each range the accurate phase's polynomials.
 #[derive(Default)]
 pub struct Reach {
