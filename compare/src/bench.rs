@@ -1,5 +1,5 @@
-//! Times the weigher's operations beside the machine's, musl's and the Rust exp2m1, its reader of constants beside C's, and screening beside a
-//! plain loop.
+//! Times the weigher's operations beside the machine's, musl's and the Rust exp2m1, its score with a list and screening beside plain loops, and
+//! its reader of constants beside C's.
 //!
 //! Each is called through a function pointer that the compiler does not see through, on the same operands, in turn.
 
@@ -7,8 +7,10 @@ use std::ffi::{CStr, CString};
 use std::hint::black_box;
 use std::time::Instant;
 
-use ffi::Direction;
+use ffi::{Direction, Entry};
 
+use crate::entries;
+use crate::listed::{self, MOST};
 use crate::random::Random;
 use crate::rust;
 use crate::screen;
@@ -58,6 +60,7 @@ pub fn run() {
     let operands = prepare(|| (one(random, -40, 40), random.between(-100, 100) as i32));
     time("scale, n from -100 to 100", &operands, &scale_ways());
     score(random);
+    score_with(random);
     constants(random);
     screening(random);
 }
@@ -113,6 +116,49 @@ fn score(random: &mut Random) {
     if rust::INSTANCES.is_empty() {
         println!("the Rust exp2m1: its source was not there");
     }
+}
+
+/// The score with a list, which is checked at each call.
+fn score_with(random: &mut Random) {
+    let operands = prepare(|| entries::of_step_5(random));
+    let lists = [
+        ("score with the 56 lent, step 5", rust::first_table()),
+        (
+            "score with 256 entries lent, step 5",
+            entries::good(random, MOST, entries::of_step_5),
+        ),
+    ];
+    for (title, list) in lists {
+        // The 56 are read from the source.
+        if list.is_empty() {
+            continue;
+        }
+        let plain = black_box(listed::score_with as fn(&[Entry], u64) -> listed::Reply);
+        let ways = [
+            way_with(list.clone()),
+            way("plain loops", move |&x| plain(&list, x).unwrap_or(0)),
+            way_without(),
+        ];
+        time_rounds(FEW_ROUNDS, title, &operands, &ways);
+    }
+    let operands = prepare(|| linear(random, -50.0, 50.0));
+    let title = "score with an empty list, weights from -50 to 50";
+    let ways = [way_with(Vec::new()), way_without()];
+    time_rounds(FEW_ROUNDS, title, &operands, &ways);
+}
+
+fn way_with(list: Vec<Entry>) -> Way<u64> {
+    let weigher = black_box(ffi::score_with as fn(&[Entry], u64, &mut u64) -> u8);
+    way("weigher", move |&x| {
+        let mut score = 0;
+        weigher(&list, x, &mut score);
+        score
+    })
+}
+
+fn way_without() -> Way<u64> {
+    let weigher = black_box(ffi::weigher_score as extern "C" fn(u64) -> u64);
+    way("weigher, no list", move |&x| weigher(x))
 }
 
 /// Floats as C writes them by %a.
