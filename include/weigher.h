@@ -9,15 +9,16 @@
  * none keeps anything between calls, and there is no global state: any number
  * of threads may call at once, each with buffers of its own.
  *
- * A pointer and the length behind it are a run of bytes that is there to read
- * (const) or to write. Where the length is 0 the pointer may be NULL. The
- * buffer for answers does not overlap the piece, nor a constant's result its
- * text.
+ * A pointer and the length behind it are a run of bytes, or of entries, that is
+ * there to read (const) or to write. Where the length is 0 the pointer may be
+ * NULL. The buffer for answers does not overlap the piece, nor a constant's
+ * result its text, nor a score the list of entries.
  *
- * Floats are binary64, passed and returned as their 64-bit patterns. Every
- * pattern is taken, and each NaN result is WEIGHER_NAN. Results are rounded to
- * nearest, ties to even, but for those of weigher_fused_in and of frames of
- * kind 3, which are given a direction; a constant is never rounded. */
+ * Floats are binary64, passed and returned as their 64-bit patterns; those of
+ * entries are doubles. Every pattern and every double is taken, and each NaN
+ * result is WEIGHER_NAN. Results are rounded to nearest, ties to even, but for
+ * those of weigher_fused_in and of frames of kind 3, which are given a
+ * direction; a constant is never rounded. */
 #ifndef WEIGHER_H
 #define WEIGHER_H
 
@@ -51,19 +52,23 @@ extern "C" {
  * first, in this order, and then the call returns the state as it was, with
  * used and len 0, and the buffer keeps its content. 9 and 10 are for texts of
  * constants alone. 11 is for frames of kind 3, which are tried for it after 4
- * and before 5, and for weigher_fused_in. */
+ * and before 5, and for weigher_fused_in. 12 and 13 are for the lists of
+ * weigher_score_with alone. */
 enum {
-    WEIGHER_SHORT_BODY = 1,    /* the body has under 2 bytes */
-    WEIGHER_LONG_BODY = 2,     /* it has over WEIGHER_LONGEST_BODY bytes */
-    WEIGHER_BAD_VERSION = 3,   /* the version is not 1 */
-    WEIGHER_BAD_KIND = 4,      /* the kind is not 1, 2 or 3 */
-    WEIGHER_BAD_PAYLOAD = 5,   /* the payload has no items, or a part of one */
-    WEIGHER_SMALL_BUFFER = 6,  /* the buffer is under WEIGHER_ANSWER_ROOM */
-    WEIGHER_BAD_STATE = 7,     /* the state is one that no bytes leave */
-    WEIGHER_UNFINISHED = 8,    /* the stream ended inside a frame */
-    WEIGHER_BAD_TEXT = 9,      /* the text has not the form of a constant */
-    WEIGHER_INEXACT = 10,      /* its value is not exactly a finite float */
-    WEIGHER_BAD_DIRECTION = 11 /* the direction is above WEIGHER_DOWN, 3 */
+    WEIGHER_SHORT_BODY = 1,     /* the body has under 2 bytes */
+    WEIGHER_LONG_BODY = 2,      /* it has over WEIGHER_LONGEST_BODY bytes */
+    WEIGHER_BAD_VERSION = 3,    /* the version is not 1 */
+    WEIGHER_BAD_KIND = 4,       /* the kind is not 1, 2 or 3 */
+    WEIGHER_BAD_PAYLOAD = 5,    /* the payload has no items, or a part of one */
+    WEIGHER_SMALL_BUFFER = 6,   /* the buffer is under WEIGHER_ANSWER_ROOM */
+    WEIGHER_BAD_STATE = 7,      /* the state is one that no bytes leave */
+    WEIGHER_UNFINISHED = 8,     /* the stream ended inside a frame */
+    WEIGHER_BAD_TEXT = 9,       /* the text has not the form of a constant */
+    WEIGHER_INEXACT = 10,       /* its value is not exactly a finite float */
+    WEIGHER_BAD_DIRECTION = 11, /* the direction is above WEIGHER_DOWN, 3 */
+    WEIGHER_LIST_TOO_LONG = 12, /* the list is over WEIGHER_LONGEST_LIST */
+    WEIGHER_BAD_ENTRY = 13      /* an x, hi or lo is not finite, or an x is 0 or
+                                   not above the x before it */
 };
 
 /* What has come of the present frame. Places of the body that are not filled
@@ -159,6 +164,36 @@ weigher_screened weigher_screening(const uint8_t *payload, size_t payload_len);
 
 /* 2^x - 1, the score of the weight x. */
 uint64_t weigher_score(uint64_t x);
+
+/* The entries of the longest list that is good. */
+#define WEIGHER_LONGEST_LIST 256
+
+/* An exception: the weight x, whose score is hi + lo, rounded. */
+typedef struct weigher_entry {
+    double x;
+    double hi;
+    double lo;
+} weigher_entry;
+
+/* The score of the weight x by a list of the caller's own, which stands in for
+ * the first of the built-in tables of exceptions, that of 56 entries. It does
+ * so for weights of 2^-104 < |x| <= 0x1.0527dbd87e24dp-51: where an entry's x
+ * equals the weight, the score is hi + lo, rounded, which may be infinite, and
+ * where none does, it is computed, also for a weight of the built-in table.
+ * Every other weight has the score that weigher_score gives, and an entry for
+ * it is never met. weigher_score and the service always use the built-in table.
+ *
+ * A list is good where it has at most WEIGHER_LONGEST_LIST entries, all finite
+ * and strictly ascending by x, in the order of values, with no x equal to 0; an
+ * empty list is good. Any list may be passed, and is checked at each call,
+ * before all else and for every weight, a NaN too. score points to a uint64_t
+ * that may be written.
+ *
+ * Returns 0, and *score is the pattern of the score. Or returns
+ * WEIGHER_LIST_TOO_LONG, which is tried first, or WEIGHER_BAD_ENTRY, and *score
+ * keeps its content. */
+uint8_t weigher_score_with(const weigher_entry *list, size_t list_len,
+                           uint64_t x, uint64_t *score);
 
 /* a * b + c, rounded once to nearest. */
 uint64_t weigher_fused(uint64_t a, uint64_t b, uint64_t c);
