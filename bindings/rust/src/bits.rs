@@ -1,6 +1,6 @@
-//! The numeric functions and constants as patterns: the bits of an `f64` as a `u64`. A direction is its byte.
+//! The numeric functions and constants as patterns: the bits of an `f64` as a `u64`. A direction is its byte, and an entry has floats.
 
-use crate::{Refusal, ffi};
+use crate::{Entry, Refusal, ffi};
 
 /// The pattern of every NaN that a function returns.
 pub const NAN: u64 = 0x7ff8000000000000;
@@ -14,6 +14,25 @@ pub const NAN: u64 = 0x7ff8000000000000;
 /// ```
 pub fn score(x: u64) -> u64 {
     ffi::weigher_score(x)
+}
+
+/// The score of the weight x by a list of the caller's own, as [`weigher::score_with`](crate::score_with) gives it.
+///
+/// ```
+/// use weigher::{Entry, Refusal, bits};
+/// let x = 0x3c30000000000000; // 2^-60
+/// let mut list = [Entry { x: f64::from_bits(x), hi: 1.0, lo: 0.5 }];
+/// assert_eq!(bits::score_with(&list, x), Ok(0x3ff8000000000000)); // 1.5
+/// assert_eq!(bits::score_with(&list, x + 1), Ok(bits::score(x + 1)));
+/// assert_eq!(bits::score_with(&list, 0xfff0000000000001), Ok(bits::NAN));
+/// list[0].lo = f64::NAN;
+/// assert_eq!(bits::score_with(&list, x + 1), Err(Refusal::BadEntry));
+/// ```
+pub fn score_with(list: &[Entry], x: u64) -> Result<u64, Refusal> {
+    let mut score = 0;
+    // SAFETY: pointer and length are those of a slice, and the score is apart from it.
+    let number = unsafe { ffi::weigher_score_with(list.as_ptr(), list.len(), x, &mut score) };
+    reply(number, score)
 }
 
 /// a × b + c, rounded once to nearest, ties to even.

@@ -1,6 +1,6 @@
 //! The functions and structs of include/weigher.h. Only the tests hold these declarations to the archive.
 
-use crate::State;
+use crate::{Entry, State};
 use std::mem::{offset_of, size_of};
 
 #[repr(C)]
@@ -43,6 +43,7 @@ const _: () = assert!(size_of::<Taken>() == 552 && offset_of!(Taken, refusal) ==
 const _: () = assert!(size_of::<Closed>() == 544 && offset_of!(Closed, refusal) == 536);
 const _: () = assert!(size_of::<HandedOn>() == 552 && offset_of!(HandedOn, refusal) == 544);
 const _: () = assert!(size_of::<Screened>() == 16 && offset_of!(Screened, number) == 8);
+const _: () = assert!(size_of::<Entry>() == 24 && offset_of!(Entry, lo) == 16);
 
 // Those that take no pointer ask nothing of their arguments. For the others a pointer and the length behind it are a slice's, and a result
 // is a place that may be written.
@@ -67,6 +68,7 @@ unsafe extern "C" {
     pub fn weigher_screening(payload: *const u8, payload_len: usize) -> Screened;
 
     pub safe fn weigher_score(x: u64) -> u64;
+    pub fn weigher_score_with(list: *const Entry, list_len: usize, x: u64, score: *mut u64) -> u8;
     pub safe fn weigher_fused(a: u64, b: u64, c: u64) -> u64;
     pub fn weigher_fused_in(direction: u8, a: u64, b: u64, c: u64, result: *mut u64) -> u8;
     pub safe fn weigher_round(x: u64) -> u64;

@@ -3,6 +3,7 @@
 mod answer;
 pub mod bits;
 mod direction;
+mod entry;
 mod ffi;
 mod payload;
 mod refusal;
@@ -11,6 +12,7 @@ mod stream;
 
 pub use answer::{Answer, Answers};
 pub use direction::Direction;
+pub use entry::{Entry, LONGEST_LIST};
 pub use payload::{Screening, payload, screening};
 pub use refusal::Refusal;
 pub use service::{ANSWER_ROOM, HandedOn, LONGEST_BODY, PartialFrame, State, Taken};
@@ -26,6 +28,43 @@ pub use stream::{Stream, serve};
 /// ```
 pub fn score(x: f64) -> f64 {
     f64::from_bits(bits::score(x.to_bits()))
+}
+
+/// The score of the weight x by a list of the caller's own, which stands in for the first of the built-in tables of exceptions, that of 56
+/// entries.
+///
+/// It does so for weights of 2^-104 < |x| ≤ 0x1.0527dbd87e24dp-51: where an entry's x equals the weight, the score is hi + lo, rounded,
+/// which may be infinite, and where none does, it is computed, also for a weight of the built-in table. Every other weight has the score
+/// that [`score`] gives, and an entry for it is never met.
+///
+/// ```
+/// use weigher::{Entry, constant, score, score_with};
+/// let x = constant(b"0x1.8p-60")?;
+/// let list = [
+///     // lo is more than half of a spacing.
+///     Entry { x, hi: constant(b"0x1.0a2b23f3bab73p-60")?, lo: constant(b"0x1.2p-113")? },
+///     Entry { x: 1.0, hi: 7.0, lo: 0.0 },
+/// ];
+/// assert_eq!(score(x), constant(b"0x1.0a2b23f3bab73p-60")?);
+/// assert_eq!(score_with(&list, x)?, constant(b"0x1.0a2b23f3bab74p-60")?);
+/// assert_eq!(score_with(&list, -x)?, score(-x)); // no entry
+/// assert_eq!(score_with(&list, 1.0)?, 1.0); // never met
+/// # Ok::<(), weigher::Refusal>(())
+/// ```
+///
+/// The list is checked at each call, before all else and for every weight, a NaN too. Over [`LONGEST_LIST`] entries are refused by
+/// [`Refusal::ListTooLong`], and else an x, hi or lo that is not finite, an x that is zero, and an x that is not above the one before it by
+/// [`Refusal::BadEntry`]. An empty list is good.
+///
+/// ```
+/// use weigher::{Entry, Refusal, score_with};
+/// let entry = Entry { x: 1e-18, hi: 7e-19, lo: 0.0 };
+/// assert_eq!(score_with(&[], 3.0), Ok(7.0));
+/// assert_eq!(score_with(&[entry; 257], 3.0), Err(Refusal::ListTooLong));
+/// assert_eq!(score_with(&[entry; 2], 3.0), Err(Refusal::BadEntry)); // the second x is not above the first
+/// ```
+pub fn score_with(list: &[Entry], x: f64) -> Result<f64, Refusal> {
+    bits::score_with(list, x.to_bits()).map(f64::from_bits)
 }
 
 /// a × b + c, rounded once to nearest, ties to even.

@@ -1,7 +1,7 @@
 use std::error::Error;
 use std::fmt;
 
-/// Why a frame, a call or a text was refused. The numbers are those of the protocol.
+/// Why a frame, a call, a text or a list was refused. The numbers are those of the protocol.
 ///
 /// ```
 /// use weigher::Refusal;
@@ -36,6 +36,11 @@ pub enum Refusal {
     /// A direction byte is above 3, in a frame of kind 3 or for [`bits::fused_in`](crate::bits::fused_in). For a frame it is tried before
     /// [`BadPayload`](Refusal::BadPayload).
     BadDirection = 11,
+    /// A list for [`score_with`](crate::score_with) has over [`LONGEST_LIST`](crate::LONGEST_LIST) entries. It is tried before
+    /// [`BadEntry`](Refusal::BadEntry).
+    ListTooLong = 12,
+    /// An entry's x, hi or lo is not finite, or an x is zero or not above the x before it.
+    BadEntry = 13,
 }
 
 impl Refusal {
@@ -56,6 +61,8 @@ impl Refusal {
             9 => Refusal::BadText,
             10 => Refusal::Inexact,
             11 => Refusal::BadDirection,
+            12 => Refusal::ListTooLong,
+            13 => Refusal::BadEntry,
             _ => return None,
         })
     }
@@ -75,6 +82,8 @@ impl fmt::Display for Refusal {
             Refusal::BadText => "the text has not the form of a constant",
             Refusal::Inexact => "the text's value is not exactly a finite float",
             Refusal::BadDirection => "the direction byte is above 3",
+            Refusal::ListTooLong => "the list has over 256 entries",
+            Refusal::BadEntry => "an entry is not finite, has an x of zero or is out of order",
         })
     }
 }

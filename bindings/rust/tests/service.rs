@@ -263,7 +263,7 @@ fn refusals_around_a_direction() -> Result<(), Refusal> {
 fn refusals_and_their_numbers() {
     for number in 0..=u8::MAX {
         let refusal = Refusal::from_number(number);
-        assert_eq!(refusal.is_some(), (1..=11).contains(&number), "{number}");
+        assert_eq!(refusal.is_some(), (1..=13).contains(&number), "{number}");
         assert!(refusal.is_none_or(|refusal| refusal.number() == number));
     }
 }
