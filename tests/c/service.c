@@ -1,6 +1,6 @@
 /* The calls that take bytes across the C interface: the layout of their structs, every byte of a state passed and returned, refused calls,
- * buffers that end where memory does, and NULL for what is empty; the texts of constants; and the directions of sums, in calls and in
- * frames. Says which check failed, and then ends with status 1. */
+ * buffers that end where memory does, and NULL for what is empty; the texts of constants; the directions of sums, in calls and in frames;
+ * and lists of exceptions. Says which check failed, and then ends with status 1. */
 #define _DEFAULT_SOURCE
 #include <stddef.h>
 #include <stdint.h>
@@ -37,6 +37,10 @@ LAYOUT(offsetof(weigher_handed_on, len) == 536);
 LAYOUT(offsetof(weigher_handed_on, refusal) == 544);
 LAYOUT(sizeof(weigher_screened) == 16);
 LAYOUT(offsetof(weigher_screened, number) == 8);
+LAYOUT(sizeof(weigher_entry) == 24);
+LAYOUT(offsetof(weigher_entry, x) == 0);
+LAYOUT(offsetof(weigher_entry, hi) == 8);
+LAYOUT(offsetof(weigher_entry, lo) == 16);
 
 static void check_at(int line, int holds, const char *fact)
 {
@@ -57,11 +61,11 @@ static int same(weigher_state a, weigher_state b)
 /* n bytes of 0xee, with memory that is neither to be read nor written right behind them. */
 static uint8_t *before_end(size_t n)
 {
-    size_t page = (size_t)sysconf(_SC_PAGESIZE);
-    uint8_t *pages = (uint8_t *)mmap(NULL, 2 * page, PROT_READ | PROT_WRITE, MAP_PRIVATE | MAP_ANONYMOUS, -1, 0);
-    CHECK(pages != MAP_FAILED && n <= page && mprotect(pages + page, page, PROT_NONE) == 0);
-    memset(pages, 0xee, page);
-    return pages + page - n;
+    size_t page = (size_t)sysconf(_SC_PAGESIZE), room = (n + page - 1) / page * page;
+    uint8_t *pages = (uint8_t *)mmap(NULL, room + page, PROT_READ | PROT_WRITE, MAP_PRIVATE | MAP_ANONYMOUS, -1, 0);
+    CHECK(pages != MAP_FAILED && mprotect(pages + room, page, PROT_NONE) == 0);
+    memset(pages, 0xee, room);
+    return pages + room - n;
 }
 
 static int untouched(const uint8_t *bytes, size_t n)
@@ -162,6 +166,7 @@ static void check_null(void)
     CHECK(weigher_screening(NULL, 0).tag == WEIGHER_SCREENED_REFUSED);
     uint64_t result = 1;
     CHECK(weigher_constant(NULL, 0, &result) == WEIGHER_BAD_TEXT && result == 1);
+    CHECK(weigher_score_with(NULL, 0, 0xc04b000000000000, &result) == 0 && result == 0xbff0000000000000);
 }
 
 static void check_payload(void)
@@ -475,6 +480,234 @@ static void check_directions(void)
     check_directions_handed_on();
 }
 
+static weigher_entry entry_of(uint64_t x, uint64_t hi, uint64_t lo)
+{
+    const uint64_t patterns[] = {x, hi, lo};
+    weigher_entry entry;
+    memcpy(&entry, patterns, sizeof entry);
+    return entry;
+}
+
+static uint64_t pattern_of(double x)
+{
+    uint64_t pattern;
+    memcpy(&pattern, &x, sizeof pattern);
+    return pattern;
+}
+
+/* 2^-60, whose score is ln 2 times that, and patterns of a few numbers. */
+static const uint64_t tiny = 0x3c30000000000000, sign = 0x8000000000000000, tiny_score = 0x3c262e42fefa39ef;
+static const uint64_t one = 0x3ff0000000000000, seven = 0x401c000000000000, largest = 0x7fefffffffffffff;
+
+/* A list is for weights of these sizes. */
+static const uint64_t first_size = 0x3970000000000001, last_size = 0x3cc0527dbd87e24d;
+
+/* So many entries for the weights 2^-60 and on, a float after another. Their scores are 0.5, 1.5 and so on. */
+static weigher_entry *list_of(size_t n)
+{
+    weigher_entry *list = (weigher_entry *)before_end(n * sizeof *list);
+    for (size_t i = 0; i < n; i++)
+        list[i] = entry_of(tiny + i, pattern_of((double)i), pattern_of(0.5));
+    return list;
+}
+
+static void check_scored(const weigher_entry *list, size_t n, uint64_t x, uint64_t want)
+{
+    uint64_t *score = (uint64_t *)before_end(sizeof *score);
+    CHECK(weigher_score_with(list, n, x, score) == 0 && *score == want);
+}
+
+/* No entry is met, and the table that the list stands in for has none for this weight either. */
+static void check_unmet(const weigher_entry *list, size_t n, uint64_t x)
+{
+    check_scored(list, n, x, weigher_score(x));
+}
+
+/* For NaNs, weights of each step and two of the list: the score keeps its content, and so does the list. */
+static void check_list_refused(const weigher_entry *list, size_t n, unsigned number)
+{
+    const uint64_t weights[] = {WEIGHER_NAN, UINT64_MAX, 0xc04b000000000000, 0x4090000000000000, 0, sign, 1, tiny, tiny + 1,
+                                0xc04a800000000000, 0x3fe0000000000000, pattern_of(list[0].x), pattern_of(list[n - 1].x)};
+    uint64_t *score = (uint64_t *)before_end(sizeof *score);
+    uint8_t *before = before_end(n * sizeof *list);
+    memcpy(before, list, n * sizeof *list);
+    for (size_t i = 0; i < sizeof weights / sizeof weights[0]; i++) {
+        CHECK(weigher_score_with(list, n, weights[i], score) == number);
+        CHECK(untouched((uint8_t *)score, sizeof *score));
+    }
+    CHECK(memcmp(before, list, n * sizeof *list) == 0);
+}
+
+static void check_empty_list(void)
+{
+    const weigher_entry *list = list_of(0);
+    check_scored(list, 0, tiny, tiny_score);
+    check_scored(list, 0, WEIGHER_NAN | 1, WEIGHER_NAN);
+    check_unmet(list, 0, first_size);
+    check_unmet(list, 0, last_size);
+    check_unmet(list, 0, last_size | sign);
+}
+
+/* Each entry is found, and not the floats around the list. */
+static void check_list(size_t n)
+{
+    const weigher_entry *list = list_of(n);
+    for (size_t i = 0; i < n; i++)
+        check_scored(list, n, tiny + i, pattern_of((double)i + 0.5));
+    check_unmet(list, n, tiny - 1);
+    check_unmet(list, n, tiny + n);
+    check_unmet(list, n, tiny ^ sign);
+    check_scored(list, n, 0xfff0000000000001, WEIGHER_NAN);
+}
+
+/* Entries for weights that no list is for, and one between them. */
+static void check_unmet_entries(void)
+{
+    const uint64_t others[] = {0xffefffffffffffff, 0xc090000000000000, 0xc04b000000000000, 0xc04a800000000000,
+                               0xbfe0000000000000, 0xbcc0527dbd87e24e, 0xb970000000000000, 0x8000000000000001,
+                               0x0000000000000001, 0x3970000000000000, tiny,               0x3cc0527dbd87e24e,
+                               0x3fe0000000000000, 0x3ff0000000000000, 0x404a800000000000, 0x4090000000000000,
+                               0x7fefffffffffffff};
+    const size_t n = sizeof others / sizeof others[0];
+    weigher_entry *list = list_of(n);
+    for (size_t i = 0; i < n; i++)
+        list[i] = entry_of(others[i], seven, 0);
+    for (size_t i = 0; i < n; i++)
+        check_scored(list, n, others[i], others[i] == tiny ? seven : weigher_score(others[i]));
+}
+
+/* The first and the last weight that a list is for, of both signs. */
+static void check_list_bounds(void)
+{
+    const uint64_t weights[] = {last_size | sign, first_size | sign, first_size, last_size};
+    weigher_entry *list = list_of(4);
+    for (size_t i = 0; i < 4; i++)
+        list[i] = entry_of(weights[i], seven, one);
+    for (size_t i = 0; i < 4; i++)
+        check_scored(list, 4, weights[i], 0x4020000000000000); /* 8 */
+}
+
+/* Two entries of the built-in table give the scores that document 01 has. Without an entry both weights have others, although the built-in
+ * table has them. */
+static void check_built_in_entries(void)
+{
+    weigher_entry *list = list_of(2);
+    check_scored(list, 2, 0xbab1e3a6eaa49c6e, 0xbaa8ccbeeaab37e3);
+    check_scored(list, 2, 0x3978a5dd21ef35af, 0x397115aa0fb29a70);
+    list[0] = entry_of(0xbab1e3a6eaa49c6e, 0xbaa8ccbeeaab37e4, 0x3750000000000000);
+    list[1] = entry_of(0x3978a5dd21ef35af, 0x397115aa0fb29a70, 0xb621000000000000);
+    check_scored(list, 2, 0xbab1e3a6eaa49c6e, 0xbaa8ccbeeaab37e4);
+    check_scored(list, 2, 0x3978a5dd21ef35af, 0x397115aa0fb29a6f);
+    list[1].hi = list[1].lo = 0.5;
+    check_scored(list, 2, 0x3978a5dd21ef35af, one);
+}
+
+/* hi + lo: ties, more than half of a spacing, beyond the finite floats, zeros. */
+static void check_list_sums(void)
+{
+    static const uint64_t sums_of_two[][3] = {
+        {0x3ff0000000000000, 0x3ca0000000000000, 0x3ff0000000000000},
+        {0x3ff0000000000001, 0x3ca0000000000000, 0x3ff0000000000002},
+        {0x3ff0000000000000, 0x3ca0000000000001, 0x3ff0000000000001},
+        {0xbff0000000000000, 0xbca0000000000001, 0xbff0000000000001},
+        {0x7fefffffffffffff, 0x7c90000000000000, 0x7ff0000000000000},
+        {0x7fefffffffffffff, 0x7c80000000000000, 0x7fefffffffffffff},
+        {0xffefffffffffffff, 0xffefffffffffffff, 0xfff0000000000000},
+        {0x3ff0000000000000, 0xbff0000000000000, 0x0000000000000000},
+        {0x8000000000000000, 0x8000000000000000, 0x8000000000000000},
+        {0x8000000000000000, 0x0000000000000000, 0x0000000000000000},
+        {0x0000000000000001, 0x0000000000000001, 0x0000000000000002},
+    };
+    weigher_entry *list = list_of(1);
+    for (size_t i = 0; i < sizeof sums_of_two / sizeof sums_of_two[0]; i++) {
+        const uint64_t *sum = sums_of_two[i];
+        list[0] = entry_of(tiny, sum[0], sum[1]);
+        check_scored(list, 1, tiny, sum[2]);
+    }
+}
+
+static void check_long_lists(void)
+{
+    const size_t longest = WEIGHER_LONGEST_LIST;
+    CHECK(longest == 256);
+    weigher_entry *list = list_of(longest + 1);
+    check_scored(list, longest, tiny + longest - 1, pattern_of(255.5));
+    check_list_refused(list, longest + 1, WEIGHER_LIST_TOO_LONG);
+    list[longest / 2] = entry_of(0, UINT64_MAX, 0);
+    check_list_refused(list, longest + 1, WEIGHER_LIST_TOO_LONG);
+    check_list_refused(list, longest, WEIGHER_BAD_ENTRY);
+    check_list_refused(list_of(10000), 10000, WEIGHER_LIST_TOO_LONG);
+}
+
+/* A bad entry at a place of a list that is good without it. */
+static void check_bad_entry(size_t n, size_t place)
+{
+    static const uint64_t not_finite[] = {0x7ff0000000000000, 0xfff0000000000000, 0x7ff0000000000001, 0xfff8000000000000, UINT64_MAX};
+    weigher_entry *list = list_of(n), good = list[place];
+    for (size_t i = 0; i < sizeof not_finite / sizeof not_finite[0]; i++) {
+        list[place] = entry_of(not_finite[i], one, 0);
+        check_list_refused(list, n, WEIGHER_BAD_ENTRY);
+        list[place] = entry_of(pattern_of(good.x), not_finite[i], 0);
+        check_list_refused(list, n, WEIGHER_BAD_ENTRY);
+        list[place] = entry_of(pattern_of(good.x), one, not_finite[i]);
+        check_list_refused(list, n, WEIGHER_BAD_ENTRY);
+    }
+    for (size_t i = 0; i < 2; i++) {
+        list[place] = entry_of(i == 0 ? 0 : sign, one, 0);
+        check_list_refused(list, n, WEIGHER_BAD_ENTRY);
+    }
+    if (n > 1) {
+        list[place] = list[place == 0 ? 1 : place - 1]; /* twice */
+        check_list_refused(list, n, WEIGHER_BAD_ENTRY);
+        list[place] = entry_of(place == 0 ? largest : largest | sign, one, 0); /* far out of order */
+        check_list_refused(list, n, WEIGHER_BAD_ENTRY);
+    }
+    list[place] = good;
+    check_scored(list, n, tiny + place, pattern_of((double)place + 0.5));
+}
+
+/* Values ascend from -2^-59 to -2^-60, and patterns the other way. A zero between the signs is in order and refused all the same. */
+static void check_list_order(void)
+{
+    const uint64_t twice = 0x3c40000000000000;
+    weigher_entry *list = list_of(3);
+    list[0] = entry_of(twice | sign, one, 0);
+    list[1] = entry_of(tiny | sign, one, 0);
+    list[2] = entry_of(tiny, one, 0);
+    check_scored(list, 3, twice | sign, one);
+    check_scored(list, 3, tiny | sign, one);
+    check_scored(list, 3, tiny, one);
+    list[0] = entry_of(tiny | sign, one, 0);
+    list[1] = entry_of(twice | sign, one, 0);
+    check_list_refused(list, 2, WEIGHER_BAD_ENTRY);
+    list[1] = entry_of(sign, one, 0);
+    check_list_refused(list, 3, WEIGHER_BAD_ENTRY);
+    list[1] = entry_of(0, one, 0);
+    check_list_refused(list, 3, WEIGHER_BAD_ENTRY);
+    list[0] = entry_of(tiny, one, 0);
+    list[1] = entry_of(twice | sign, one, 0);
+    check_list_refused(list, 2, WEIGHER_BAD_ENTRY);
+}
+
+static void check_lists(void)
+{
+    static const size_t lengths[] = {1, 2, 3, 56, 256};
+    check_empty_list();
+    for (size_t i = 0; i < sizeof lengths / sizeof lengths[0]; i++) {
+        size_t n = lengths[i];
+        check_list(n);
+        check_bad_entry(n, 0);
+        check_bad_entry(n, n / 2);
+        check_bad_entry(n, n - 1);
+    }
+    check_unmet_entries();
+    check_list_bounds();
+    check_built_in_entries();
+    check_list_sums();
+    check_long_lists();
+    check_list_order();
+}
+
 int main(void)
 {
     CHECK(same(weigher_fresh(), state_of(0)));
@@ -487,5 +720,6 @@ int main(void)
     check_screening();
     check_constants();
     check_directions();
+    check_lists();
     return 0;
 }
