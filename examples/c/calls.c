@@ -47,6 +47,31 @@ static void directions(void)
     show_fused_in("in a direction that is not there", 4);
 }
 
+/* 2^-60 and 2^-59. */
+static const double tiny = 8.673617379884035e-19, twice_tiny = 1.734723475976807e-18;
+
+static void show_score_with(const char *name, const weigher_entry *list, size_t list_len, uint64_t x)
+{
+    uint64_t score;
+    unsigned refusal = weigher_score_with(list, list_len, x, &score);
+    if (refusal == 0)
+        printf("weigher_score_with %s: 0x%016" PRIx64 "\n", name, score);
+    else
+        printf("weigher_score_with %s: refusal %u\n", name, refusal);
+}
+
+static void lists(void)
+{
+    const weigher_entry list[] = {{tiny, 1.0, 0.5}, {twice_tiny, 7.0, 0.0}, {1.0, 9.0, 0.0}};
+    const weigher_entry turned[] = {{twice_tiny, 7.0, 0.0}, {tiny, 1.0, 0.5}};
+    const weigher_entry long_list[WEIGHER_LONGEST_LIST + 1] = {{tiny, 1.0, 0.5}};
+    show_score_with("of 2^-60 by an empty list", NULL, 0, 0x3c30000000000000);
+    show_score_with("of 2^-60 by its entry", list, 3, 0x3c30000000000000);
+    show_score_with("of 1, whose entry is never met", list, 3, 0x3ff0000000000000);
+    show_score_with("by a list that is too long", long_list, WEIGHER_LONGEST_LIST + 1, 0x3c30000000000000);
+    show_score_with("by a list out of order", turned, 2, 0x3c30000000000000);
+}
+
 static void show_answer(const char *call, size_t used, size_t len, unsigned refusal, const uint8_t *answer)
 {
     printf("%s: used %zu, refusal %u, answer of %zu", call, used, refusal, len);
@@ -134,6 +159,7 @@ int main(void)
 {
     numeric();
     directions();
+    lists();
     frame_by_frame();
     whole_piece();
     refused_calls();
