@@ -32,21 +32,22 @@ test: proved source compare examples outside
 # The programs and what the archives stand on, in one go: crates that don't need each other are proved side by side, and rt waits for all
 # that it has started: with four, fewer processors stand idle. An archive proves its own crate.
 proved:
-	RT_JOBS=4 rt check weigher screening constants
+	RT_JOBS=4 rt check weigher screening constants score_with
 
 # Each constant of the Rust source, read by the program constants, beside the definitions' and the code's, where the source is there.
 source: proved
 	tests/constants.sh
 
-# rt makes an archive of one crate's own functions alone: the four are made one where ar is there.
+# rt makes an archive of one crate's own functions alone: the five are made one where ar is there.
 archive:
 	rt staticlib constant_c
 	rt staticlib operations_c
 	rt staticlib payloads_c
+	rt staticlib score_with_c
 	rt staticlib service_c
 	@if command -v ar >/dev/null; then \
 	    cd target/staticlib && \
-	    printf '%s\n' 'create libweigher.a' 'addlib libconstant_c.a' 'addlib liboperations_c.a' 'addlib libpayloads_c.a' 'addlib libservice_c.a' save end | ar -M; \
+	    printf '%s\n' 'create libweigher.a' 'addlib libconstant_c.a' 'addlib liboperations_c.a' 'addlib libpayloads_c.a' 'addlib libscore_with_c.a' 'addlib libservice_c.a' save end | ar -M; \
 	else \
 	    echo "ar is not installed: target/staticlib/libweigher.a is not made"; \
 	fi

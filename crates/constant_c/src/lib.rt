@@ -3,19 +3,11 @@
 ghost use mathlib.Core.Path.{_≡_};
 ghost use Rattle.constant.specs.Constant.{constantOf};
 ghost use Rattle.reply.specs.Told.{number, result};
-use reply::Reply;
 
 // Reads a constant's text. Where it is refused, the result keeps its content.
 #[no_mangle]
 pub extern "C" fn weigher_constant(text: &[u8], out: &mut u64) -> u8
     ensures { λ r. ⌜ (r ≡ number (constantOf (now (text .entry)))) × (now (out .exit) ≡ result (constantOf (now (text .entry))) (now (out .entry))) ⌝ }
 {
-    let reply = constant::constant(text);
-    match reply {
-        Reply::Refused(number) => number,
-        Reply::Bits(bits) => {
-            *out = bits;
-            0
-        }
-    }
+    reply::tell(constant::constant(text), out)
 }

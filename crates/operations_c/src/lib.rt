@@ -7,7 +7,6 @@ ghost use Rattle.ieee754.specs.Operations.{fusedBits, roundBits, floorBits, sca
 ghost use Rattle.reply.specs.Told.{number, result};
 ghost use Rattle.multiply_add.specs.Fused.{fusedReply};
 ghost use Rattle.exp2m1.specs.Score.{scoreBits};
-use reply::Reply;
 
 // a × b + c, rounded once to nearest.
 #[no_mangle]
@@ -22,14 +21,7 @@ pub extern "C" fn weigher_fused(a: u64, b: u64, c: u64) -> u64
 pub extern "C" fn weigher_fused_in(direction: u8, a: u64, b: u64, c: u64, out: &mut u64) -> u8
     ensures { λ r. ⌜ (r ≡ number (fusedReply direction a b c)) × (now (out .exit) ≡ result (fusedReply direction a b c) (now (out .entry))) ⌝ }
 {
-    let reply = multiply_add::fused(direction, a, b, c);
-    match reply {
-        Reply::Refused(number) => number,
-        Reply::Bits(bits) => {
-            *out = bits;
-            0
-        }
-    }
+    reply::tell(multiply_add::fused(direction, a, b, c), out)
 }
 
 // The nearest whole number, a tie to the even one.

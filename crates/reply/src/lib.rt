@@ -1,4 +1,6 @@
-// What a call replies that gives a float or refuses: `constant`, and `fused` in a direction.
+// What a call replies that gives a float or refuses: `constant`, `fused` in a direction and `score_with`.
+//
+// tell promises the form of a reply for C: a number, and a result behind a pointer (specs/Told.antt).
 ghost use mathlib.Core.Path.{_≡_};
 ghost use Rattle.reply.specs.Told.{number, result};
 
@@ -9,7 +11,7 @@ pub enum Reply {
     Bits(u64),
 }
 
-// The number of a reply, and its float where there is one: behind the reference, which keeps its content where there is none.
+// Tells C of a reply. Where it is a refusal, the result keeps its content.
 pub fn tell(reply: Reply, out: &mut u64) -> u8
     ensures { λ r. ⌜ (r ≡ number reply) × (now (out .exit) ≡ result reply (now (out .entry))) ⌝ }
 {

@@ -1,3 +1,4 @@
 -- The built-in table, lent; and replies computed.
 pub mod Answers
 pub mod BuiltIn
+mod Examples
