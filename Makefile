@@ -43,11 +43,11 @@ archive:
 	rt staticlib constant_c
 	rt staticlib operations_c
 	rt staticlib payloads_c
-	rt staticlib score_with_c
+	rt staticlib score_c
 	rt staticlib service_c
 	@if command -v ar >/dev/null; then \
 	    cd target/staticlib && \
-	    printf '%s\n' 'create libweigher.a' 'addlib libconstant_c.a' 'addlib liboperations_c.a' 'addlib libpayloads_c.a' 'addlib libscore_with_c.a' 'addlib libservice_c.a' save end | ar -M; \
+	    printf '%s\n' 'create libweigher.a' 'addlib libconstant_c.a' 'addlib liboperations_c.a' 'addlib libpayloads_c.a' 'addlib libscore_c.a' 'addlib libservice_c.a' save end | ar -M; \
 	else \
 	    echo "ar is not installed: target/staticlib/libweigher.a is not made"; \
 	fi

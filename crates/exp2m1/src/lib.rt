@@ -55,7 +55,10 @@ pub fn score_found(x: u64, found: Found) -> u64
     ensures { λ r. ⌜ ((list : List Entry) → found ≡ find list (bits x) → r ≡ scoreWith list x) ⌝ }
 {
     if is_small(x) {
-        return math::to_bits(found_or_two_terms(found, math::from_bits(x)));
+        if let Found::Reply(result) = found {
+            return math::to_bits(result);
+        }
+        return math::to_bits(exp2m1_two_terms(math::from_bits(x)));
     }
     score(x)
 }
@@ -151,13 +154,7 @@ fn exp2m1_scaled(x: f64) -> f64
 fn exp2m1_small(x: f64) -> f64
     ensures { λ r. ⌜ r ≡ orElse (find (entries First) x) (exp2m1TwoTerms x) ⌝ }
 {
-    found_or_two_terms(exceptions::exception(Stretch::First, x), x)
-}
-
-fn found_or_two_terms(found: Found, x: f64) -> f64
-    ensures { λ r. ⌜ r ≡ orElse found (exp2m1TwoTerms x) ⌝ }
-{
-    if let Found::Reply(result) = found {
+    if let Found::Reply(result) = exceptions::exception(Stretch::First, x) {
         return result;
     }
     exp2m1_two_terms(x)

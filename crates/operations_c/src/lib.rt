@@ -6,7 +6,6 @@ ghost use Rattle.rounding.specs.declared.Direction.the-variants.{Nearest};
 ghost use Rattle.ieee754.specs.Operations.{fusedBits, roundBits, floorBits, scaleBits};
 ghost use Rattle.reply.specs.Told.{number, result};
 ghost use Rattle.multiply_add.specs.Fused.{fusedReply};
-ghost use Rattle.exp2m1.specs.Score.{scoreBits};
 
 // a × b + c, rounded once to nearest.
 #[no_mangle]
@@ -46,12 +45,4 @@ pub extern "C" fn weigher_scale(x: u64, n: i32) -> u64
     ensures { λ r. ⌜ r ≡ scaleBits x n ⌝ }
 {
     scaling::scale(x, n)
-}
-
-// 2^x - 1, the score of the weight x.
-#[no_mangle]
-pub extern "C" fn weigher_score(x: u64) -> u64
-    ensures { λ r. ⌜ r ≡ scoreBits x ⌝ }
-{
-    exp2m1::score(x)
 }

@@ -1,5 +1,5 @@
 -- `exp2m1::score_found` meets its contract: step 5 is the one that looks at the list (Small). Assumes nothing.
-use mathlib.Core.Path.{_≡_, sym, ap, ap₂, _∙_}
+use mathlib.Core.Path.{_≡_, refl, sym, ap, ap₂, _∙_}
 use mathlib.Core.Bool.{true, false}
 use mathlib.Core.List.{List}
 use Prim.Native.Nat.{ℕ, _<_, _^_}
@@ -9,6 +9,7 @@ use Rattle.exceptions.specs.declared.Entry.{Entry}
 use Rattle.exceptions.specs.declared.Stretch.the-variants.{First}
 use Rattle.exceptions.specs.declared.Found.{Found}
 use Rattle.exceptions.specs.Lookup.{find, orElse, entries}
+use Rattle.exceptions.proofs.Replies.{found, not-found}
 use Rattle.exp2m1.specs.Phases.{exp2m1TwoTerms}
 use Rattle.exp2m1.specs.Score.{scoreWith, scoreBits}
 use Rattle.exp2m1.specs.Range.{isSmall}
@@ -31,19 +32,30 @@ returns : tie.Need-returns
 returns c =
     let c2 = c .before .before in
     let c4 = c2 .before .before in
-    in-step-5 _ (search needs) (sym (c4 .is-small .ensures) ∙ c2 .before .if1 .taken) (c2 .from-bits .ensures) (c .before .found-or-two-terms .ensures) (c .to-bits .ensures)
+    in-step-5 _ (search needs) (sym (c4 .before .is-small .ensures) ∙ c4 .if1 .taken) refl (found _ refl (c2 .found .given .1)) (c .to-bits .ensures)
 
 returns-2 : tie.Need-returns-2
-returns-2 c = elsewhere-too _ (sym (c .before .before .is-small .ensures) ∙ c .before .if1 .left) (c .score .ensures)
+returns-2 c =
+    let c1 = c .before in
+    let c3 = c1 .before .before in
+    let c5 = c3 .before .before in
+    in-step-5 _ (search needs) (sym (c5 .before .is-small .ensures) ∙ c5 .if1 .taken) (c1 .before .from-bits .ensures) (not-found refl (c3 .enum-told .given .1) (c1 .exp2m1-two-terms .ensures)) (c .to-bits2 .ensures)
+
+returns-3 : tie.Need-returns-3
+returns-3 c = elsewhere-too _ (sym (c .before .before .is-small .ensures) ∙ c .before .if1 .left) (c .score .ensures)
 
 pub score-found-spec : {M : Type 1} → statement M
 score-found-spec =
     tie.close
     (tie.spec
     (λ c κs. search needs)
-    (λ c κs. search needs)
-    (λ c κs. search needs)
+    (λ c. search needs)
     (λ c κs. search needs)
     returns
+    (λ c. search needs)
     (λ c κs. search needs)
-    returns-2)
+    (λ c κs. search needs)
+    (λ c κs. search needs)
+    returns-2
+    (λ c κs. search needs)
+    returns-3)

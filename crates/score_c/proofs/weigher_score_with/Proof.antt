@@ -1,4 +1,4 @@
--- `score_with_c::weigher_score_with` meets its contract: a walk of its MIR, by hand. The list and x are passed to `score_with`, and its reply and out to `tell`; of both the proof knows only that they meet their contracts. There is no branch.
+-- `score_c::weigher_score_with` meets its contract: a walk of its MIR, by hand. The list and x are passed to `score_with`, and its reply and out to `tell`; of both the proof knows only that they meet their contracts. There is no branch.
 -- `tell` is called at out's own lifetime, share and ghost name: out is given up for good, no lifetime is made, and nothing has to come back. What `tell` says of out's last value is what is had of out at exit (`gave-ref`).
 -- Assumes nothing.
 use mathlib.Core.Path.{_≡_, refl, ap, _∙_}
@@ -50,10 +50,10 @@ use Rattle.score_with.proofs.score_with as score
 use Rattle.score_with.proofs.score_with.Symbol as score-def
 use Rattle.score_with.proofs.score_with.Symbol.{name as #score}
 use Rattle.score_with.proofs.score_with.Met as score-thm
-use Rattle.score_with_c.proofs.weigher_score_with.Key.{name as #self}
-use Rattle.score_with_c.proofs.weigher_score_with as self
-use Rattle.score_with_c.proofs.weigher_score_with.Statement as stated
-use Rattle.score_with_c.proofs.weigher_score_with.Code as code
+use Rattle.score_c.proofs.weigher_score_with.Key.{name as #self}
+use Rattle.score_c.proofs.weigher_score_with as self
+use Rattle.score_c.proofs.weigher_score_with.Statement as stated
+use Rattle.score_c.proofs.weigher_score_with.Code as code
 
 abbrev stayed : Stays (self.ended .signature .params) (self.ended .kept)
 stayed = (stay-none-slice (0 ∷ []) tt (plain (λ _. E.the-row)) yes, (stay-none (λ _. u64) yes, (gave-ref (1 ∷ []) tt (plain (λ _. u64)), tt)))

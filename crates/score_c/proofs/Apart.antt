@@ -12,7 +12,7 @@ use Rattle.exceptions.specs.declared.Entry.{Entry}
 use Rattle.exception_list.specs.List.{refusalOf}
 use Rattle.exp2m1.specs.Score.{scoreWith}
 use Rattle.score_with.specs.Score.{scoredWith}
-use Rattle.score_with_c.specs.Told.{TellsApart}
+use Rattle.score_c.specs.Told.{TellsApart}
 
 apart : (n b : ℕ) → Apart (cond (eqb n 0) (Bits b) (Refused n))
 apart zero b e = (b, refl)
