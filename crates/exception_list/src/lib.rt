@@ -11,7 +11,6 @@ ghost use Prim.Native.Nat.{_<_};
 ghost use mathlib.Core.Bool.{true, false};
 ghost use lib.Ieee.{inf};
 ghost use lib.Ieee.Scale.{finite};
-ghost use Rattle.pair.specs.Pair.{bits};
 ghost use Rattle.exception_list.specs.List.{isGood};
 ghost use Rattle.exception_list.specs.Steps.{mayFollow, refusalAfter, checkStart, checkNext, searchIn, searchNext};
 
@@ -143,11 +142,11 @@ fn search_in(first: usize, past: usize, x: f64) -> Search
     }
 }
 
-// A search through a whole list for the weight with the bits x.
-pub fn search_start(length: usize, x: u64) -> Search
-    ensures { λ r. ⌜ r ≡ searchIn 0 length (bits x) ⌝ }
+// A search through a whole list.
+pub fn search_start(length: usize, x: f64) -> Search
+    ensures { λ r. ⌜ r ≡ searchIn 0 length x ⌝ }
 {
-    search_in(0, length, math::from_bits(x))
+    search_in(0, length, x)
 }
 
 // The half that can still hold x, once the middle entry e is seen; or what e replies.

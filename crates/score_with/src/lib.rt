@@ -15,7 +15,7 @@ ghost use Rattle.pair.specs.Pair.{bits};
 ghost use Rattle.exceptions.specs.declared.Entry.{Entry as Case};
 ghost use Rattle.exceptions.specs.Lookup.{find};
 ghost use Rattle.exception_list.specs.List.{refusalOf};
-ghost use Rattle.exception_list.specs.Steps.{Searches, checked, searched};
+ghost use Rattle.exception_list.specs.Steps.{Searches, checked, searchIn, searched};
 ghost use Rattle.score_with.specs.Score.{scoredWith};
 
 // The end of a check that has come to c.
@@ -41,6 +41,13 @@ fn search_from(list: &[Entry], s: Search) -> Search
     search_from(list, exception_list::search_next(s, list[at]))
 }
 
+// A search through a whole list for the weight with the bits x.
+fn search_for(length: usize, x: u64) -> Search
+    ensures { λ r. ⌜ r ≡ searchIn 0 length (bits x) ⌝ }
+{
+    exception_list::search_start(length, math::from_bits(x))
+}
+
 // The reply for the weight with the bits x and a list, from the ends of its check and of the search.
 fn reply_with(c: Check, x: u64, s: Search) -> Reply
     ensures { λ r. ⌜ ((list : List Case) → c .refusal ≡ refusalOf list → (refusalOf list ≡ 0 → s .found ≡ find list (bits x)) → r ≡ scoredWith list x) ⌝ }
@@ -58,6 +65,6 @@ pub fn score_with(list: &[Entry], x: u64) -> Reply
 {
     let count = list.len();
     let c = check_from(list, exception_list::check_start(count));
-    let s = search_from(list, exception_list::search_start(count, x));
+    let s = search_from(list, search_for(count, x));
     reply_with(c, x, s)
 }
