@@ -1,4 +1,6 @@
--- The built-in table, lent; and replies computed.
+-- Steps of the walks over a lent slice; the built-in table, lent; and replies computed.
 pub mod Answers
+pub mod Locals
+mod Lent
 pub mod BuiltIn
 mod Examples
