@@ -22,7 +22,7 @@ use ghost.Atoms.{Atoms}
 use contract.Monad.{fact}
 use types.Kit.{Given, ‵, raw, _⊛_, ⋆, atRet, _$_, _∵_, !, qed, by, move, keep, drop, use0, use1, use2, use3, rewrite, split, join, fsplit, fjoin, suffices, frame, done}
 use types.Part.{whole, sub, look-in}
-use types.Run.{look, look-raw, init, forget, stop, hop, fld, from, load, lit, of-opd, bin, and-then, no-more, assigns, first, skips, branches, land, returns-within, returns, enter, alloc1, alloc0, params1, pass1, pass0, free1, free0, exec}
+use types.Run.{look, look-raw, init, store, stop, hop, fld, from, load, lit, of-opd, bin, and-then, no-more, assigns, first, skips, branches, returns-within, returns, enter, alloc1, alloc0, params1, pass1, pass0, free1, free0, exec}
 use sound.WpLaws.{FmC, fmOf, WpFn-mono}
 use denote.RattleType.{RattleType, owns}
 use denote.Laws.{Is, Tells, Makes, shows}
@@ -32,7 +32,7 @@ use denote.Builtin.{SliceRefOf}
 use denote.Ref.{RefT, now}
 use denote.Signature.{plain}
 use denote.Slice.{sliceTy, sliceVal, ShrSlice, Room, slice-vals, shr-slice-tells, shr-slice-copy}
-use denote.Steps.{owned, peeks, heard, nothing}
+use denote.Steps.{owned, heard, nothing}
 use denote.Struct.Laws as LL
 use denote.Triple.Statement.{Contract, Triple}
 use denote.Triple.Call.{calls-at, calls-from}
@@ -45,6 +45,7 @@ use Rattle.exceptions.specs.declared.Entry.{Entry}
 use Rattle.exceptions.proofs.Entry as E
 use Rattle.exceptions.proofs.Entry.Laws as E′
 use Rattle.score_with.proofs.Answers.{answers-lent, answers-plain}
+use Rattle.score_with.proofs.Locals.{copied, lands-in, gone}
 
 -- what `getD` is handed past the end; no list has it there
 abbrev none : Entry
@@ -204,21 +205,21 @@ module _ {M : Type 1} (𝓤 : URA M) (H : Heap 𝓤) (A : Atoms 𝓤) (j : Job �
         -- [_8; …; _0; …; the token; list; list; list]: at = s.at, and the test
         assigns ! (of-opd ! (load ! (from ! (fld ! refl (stop !))) (look-in ! 12 (sub ! 0 refl (whole !))))) (from ! (stop !)) (init ! 10 refl (tt, wt .1 .0)) $
         assigns ! (of-opd ! (load ! (from ! (fld ! refl (stop !))) (look-in ! 14 (sub ! 1 refl (whole !))))) (from ! (stop !)) (init ! 8 refl (tt, record { fits = room .0 })) $
-        assigns ! (bin ! (load ! (from ! (stop !)) (look ! 8 refl)) (load ! (from ! (stop !)) (look ! 10 refl)) tt) (from ! (stop !)) (init ! 6 refl (tt, tt)) $
-        first ! $ branches ! (load ! (from ! (stop !)) (look ! 6 refl))
-        (λ past. assigns ! (of-opd ! (load ! (from ! (stop !)) (look ! 12 refl))) (from ! (stop !)) (init ! 16 refl wt) $
-        returns-within ! (Whole .post (at s (mach s))) refl (look ! 16 refl) $ forget ! 6 refl $ forget ! 8 refl $ forget ! 10 refl $ forget ! 12 refl $ forget ! 14 refl $ forget ! 16 refl $
-        move ! (16 ∷ 17 ∷ []) $ free1 ! $ move ! (14 ∷ 15 ∷ []) $ free1 ! $ move ! (12 ∷ 13 ∷ []) $ free1 ! $ move ! (10 ∷ 11 ∷ []) $ free1 ! $ move ! (8 ∷ 9 ∷ []) $ free1 ! $ move ! (6 ∷ 7 ∷ []) $ free1 ! $ move ! (4 ∷ 5 ∷ []) $ free1 ! $ move ! (2 ∷ 3 ∷ []) $ free1 ! $ free1 ! $ free0 ! $
+        assigns ! (bin ! (copied ! 8 refl) (copied ! 10 refl) tt) (from ! (stop !)) (init ! 6 refl (tt, tt)) $
+        first ! $ branches ! (copied ! 6 refl)
+        (λ past. assigns ! (of-opd ! (copied ! 12 refl)) (from ! (stop !)) (init ! 16 refl wt) $
+        returns-within ! (Whole .post (at s (mach s))) refl (look ! 16 refl) $
+        gone ! 16 refl refl $ gone ! 14 refl refl $ gone ! 12 refl refl $ gone ! 10 refl refl $ gone ! 8 refl refl $ gone ! 6 refl refl $ move ! (4 ∷ 5 ∷ []) $ free1 ! $ move ! (2 ∷ 3 ∷ []) $ free1 ! $ free1 ! $ free0 ! $
         -- [the token; list; list; list]
         owned ! (j .row) (Is (j .row)) (j .makes) s _ is $ owned ! (j .row) (Is (j .row)) (j .makes) s _ is $ keep ! (0 ∷ 2 ∷ 3 ∷ 1 ∷ []) $
         by ! (exits s (mach s) (j .ends ys s ok (leb→le (length ys) (j .index s) past))))
         (λ more.
         let l : j .index s < length ys = nleb→lt (length ys) (j .index s) more in
         let on = j .goes-on ys s ok l (below-max l room) in
-        skips ! $ exec ! C Λ locals (one-more #step #self) (atRet locals (Whole .post (at s (mach s)))) $ forget ! 6 refl $ forget ! 8 refl $
+        skips ! $ exec ! C Λ locals (one-more #step #self) (atRet locals (Whole .post (at s (mach s)))) $
         -- e = list[at]: its place is at times the entry's size past the pointer
-        assigns ! (bin ! (load ! (from ! (stop !)) (look ! 10 refl)) (lit ! tt) (record { fits = fits-mul l room })) (from ! (stop !)) (init ! 8 refl (tt, record { fits = fits-mul l room })) $
-        assigns ! (bin ! (load ! (from ! (fld ! refl (stop !))) (look-in ! 14 (sub ! 0 refl (whole !)))) (load ! (from ! (stop !)) (look ! 8 refl)) tt) (from ! (stop !)) (init ! 2 refl (tt, tt)) $
+        assigns ! (bin ! (copied ! 10 refl) (lit ! tt) (record { fits = fits-mul l room })) (from ! (stop !)) (store ! 8 refl (tt, record { fits = fits-mul l room })) $
+        assigns ! (bin ! (load ! (from ! (fld ! refl (stop !))) (look-in ! 14 (sub ! 0 refl (whole !)))) (copied ! 8 refl) tt) (from ! (stop !)) (init ! 2 refl (tt, tt)) $
         rewrite ! 2 (λ (p : ℕ). ‵ (fat fullShare tyPtr l₇ 0 (vptr (list .ptr .0) p))) (sym (place-is 24 (list .ptr .1) (j .index s))) refl $
         -- one of the lists is looked into
         move ! (21 ∷ []) $ fsplit ! $ drop ! $ fsplit ! $ drop ! $ move ! (19 ∷ []) $ split ! $ move ! (2 ∷ 0 ∷ []) $
@@ -230,19 +231,19 @@ module _ {M : Type 1} (𝓤 : URA M) (H : Heap 𝓤) (A : Atoms 𝓤) (j : Job �
         move ! (0 ∷ 2 ∷ []) $ join ! $ move ! (1 ∷ []) $ drop ! $
         -- [the token; _8; …; _0; …; list; list]: the step, of s and e
         owned ! E.the-row (Is E.the-row) (LL.makes E.the-type E′.the-plain 𝓤 H A) e _ g $ owned ! (j .row) (Is (j .row)) (j .makes) s _ is $ use2 W (raw (Step .pre to-step)) (goes-step (below-max l room)) $
-        calls-at ! fm Step known to-step (and-then ! (load ! (from ! (stop !)) (look ! 14 refl)) (and-then ! (load ! (from ! (stop !)) (look ! 2 refl)) (no-more !))) (λ u.
+        calls-at ! fm Step known to-step (and-then ! (copied ! 14 refl) (and-then ! (copied ! 2 refl) (no-more !))) (λ u.
         answers-plain ! tt stepped steps to-step u (λ r. r ≡ j .next s e) (λ r ws. id⊢ 𝓤 _) (λ r er.
-        rewrite ! 0 (λ (z : S). ‵ (OwnS z u)) er refl $ peeks ! (j .row) (Is (j .row)) (shows 𝓤 H A (j .row)) (j .next s e) (u ∷ []) (λ is′. land ! (from ! (stop !)) (init ! 6 refl (j .typed (j .next s e) u is′)) $
+        rewrite ! 0 (λ (z : S). ‵ (OwnS z u)) er refl $ lands-in ! (j .row) (j .next s e) u 6 refl (j .typed (j .next s e) u) $
         -- [what the step gives; the token; _8; …; _0; …; list; list]: the call of itself, with the list and that
         move ! (1 ∷ 20 ∷ 0 ∷ []) $ use3 W (raw (Self .pre (at (j .next s e) u))) (goes-self (j .next s e) u (on .0)) $
         calls-from ! fm (raw (Self .pre (at (j .next s e) u))) (lv ∷ u ∷ []) (Self .post (at (j .next s e) u)) (again (at (j .next s e) u) (on .1))
-        (and-then ! (load ! (from ! (stop !)) (look ! 15 refl)) (and-then ! (load ! (from ! (stop !)) (look ! 5 refl)) (no-more !))) (λ v.
+        (and-then ! (copied ! 15 refl) (and-then ! (copied ! 5 refl) (no-more !))) (λ v.
         answers-lent ! tt ended clauses (at (j .next s e) u) v (λ x. j .Said ys (j .next s e) x) (λ x ws. id⊢ 𝓤 _) (λ x ex.
         -- [the result; the token; _8; …; _0; …; list]
-        peeks ! (j .row) (Is (j .row)) (shows 𝓤 H A (j .row)) x (v ∷ []) (λ is″. land ! (from ! (stop !)) (init ! 18 refl (j .typed x v is″)) $
-        returns ! (look ! 18 refl) $ forget ! 2 refl $ forget ! 4 refl $ forget ! 6 refl $ forget ! 10 refl $ forget ! 12 refl $ forget ! 14 refl $ forget ! 16 refl $ forget ! 18 refl $
-        move ! (18 ∷ 19 ∷ []) $ free1 ! $ move ! (16 ∷ 17 ∷ []) $ free1 ! $ move ! (14 ∷ 15 ∷ []) $ free1 ! $ move ! (12 ∷ 13 ∷ []) $ free1 ! $ move ! (10 ∷ 11 ∷ []) $ free1 ! $ move ! (8 ∷ 9 ∷ []) $ free1 ! $ move ! (6 ∷ 7 ∷ []) $ free1 ! $ move ! (4 ∷ 5 ∷ []) $ free1 ! $ move ! (2 ∷ 3 ∷ []) $ free1 ! $ free0 ! $
-        owned ! (j .row) (Is (j .row)) (j .makes) s _ is $ keep ! (1 ∷ 2 ∷ 3 ∷ 0 ∷ []) $ by ! (exits x v (on .2 x ex)))))))))))))))))))))
+        lands-in ! (j .row) x v 18 refl (j .typed x v) $
+        returns ! (look ! 18 refl) $
+        gone ! 18 refl refl $ gone ! 16 refl refl $ gone ! 14 refl refl $ gone ! 12 refl refl $ gone ! 10 refl refl $ gone ! 8 refl refl $ gone ! 6 refl refl $ gone ! 4 refl refl $ gone ! 2 refl refl $ free0 ! $
+        owned ! (j .row) (Is (j .row)) (j .makes) s _ is $ keep ! (1 ∷ 2 ∷ 3 ∷ 0 ∷ []) $ by ! (exits x v (on .2 x ex)))))))))))))))))))
 
   -- the contract at each measure below t gives it at t
   pub method : (W : Given 𝓤 H A) (𝓣 : Tables 𝓤 H) (#step #self : Name) → Triple 𝓤 (𝓣 .C #step) Step → Closed 𝓤 H (𝓣 .C) (𝓣 .Λ) #self (function σ #step #self) → (t : ℕ)

@@ -1,11 +1,10 @@
 -- `score_with::reply_with` meets its contract. Assumes nothing.
-use mathlib.Core.Path.{_≡_, refl, sym, ap, _∙_}
-use mathlib.Core.Bool.{Bool, true, false, cond}
+use mathlib.Core.Path.{_≡_, sym, ap, _∙_}
+use mathlib.Core.Bool.{Bool, false, cond}
 use mathlib.Core.List.{List}
 use Prim.Native.Nat.{ℕ}
 use lib.Dec.{eqb}
 use Rattle.pair.specs.Pair.{bits}
-use Rattle.reply.specs.declared.Reply.{Reply}
 use Rattle.reply.specs.declared.Reply.the-variants.{Refused, Bits}
 use Rattle.exceptions.specs.declared.Entry.{Entry}
 use Rattle.exceptions.specs.declared.Found.{Found}
@@ -14,7 +13,7 @@ use Rattle.exception_list.specs.List.{refusalOf}
 use Rattle.exp2m1.specs.Score.{scoreWith}
 use Rattle.score_with.specs.Score.{scoredWith}
 use borrow.Author.Needs.{needs}
-use borrow.Author.Tests.{eq-eqb, ne-eqb}
+use borrow.Author.Tests.{ne-eqb}
 use Rattle.score_with.proofs.reply_with.Statement.{statement}
 use Rattle.score_with.proofs.reply_with.Tie as tie
 

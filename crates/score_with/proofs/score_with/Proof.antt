@@ -18,17 +18,17 @@ use contract.Monad.{Fun}
 use contract.Running.{givenOf, tables, tablesOf}
 use types.Kit.{Given, ‵, raw, _⊛_, ⋆, _$_, _∵_, !, qed, by, move, keep, use1, use2, use3, split, join, fsplit, fjoin, suffices, frame, done}
 use types.Part.{whole, sub, look-in}
-use types.Run.{look, init, forget, stop, fld, from, load, of-opd, and-then, no-more, assigns, land, returns, enter, alloc1, alloc0, params1, pass1, pass0, free1, free0}
+use types.Run.{look, init, stop, fld, from, load, of-opd, and-then, no-more, assigns, returns, enter, alloc1, alloc0, params1, pass1, pass0, free0}
 use sound.WpLaws.{FmC, fmOf, WpFn-mono}
 use denote.RattleType.{owns}
-use denote.Laws.{Is, shows}
+use denote.Laws.{Is}
 use denote.Plain.{uint-makes, uint-vals, uint-tells}
 use denote.Builtin.{usize, u64}
 use denote.Enum.Laws as EL
 use denote.Ref.{RefT}
 use denote.Signature.{plain}
 use denote.Slice.{sliceVal, ShrSlice, Room, slice-vals, shr-slice-tells, shr-slice-copy}
-use denote.Steps.{owned, peeks, nothing}
+use denote.Steps.{owned, nothing}
 use denote.Struct.Laws as LL
 use denote.Triple.Statement.{Contract, Triple}
 use denote.Triple.Call.{calls-at}
@@ -75,6 +75,7 @@ use Rattle.score_with.proofs.reply_with.Symbol as finish-def
 use Rattle.score_with.proofs.reply_with.Symbol.{name as #finish}
 use Rattle.score_with.proofs.reply_with.Met as finish-thm
 use Rattle.score_with.proofs.Answers.{answers-lent, answers-plain}
+use Rattle.score_with.proofs.Locals.{copied, lands-in, gone}
 use Rattle.score_with.proofs.score_with.Key.{name as #self}
 use Rattle.score_with.proofs.score_with as self
 use Rattle.score_with.proofs.score_with.Statement as stated
@@ -196,34 +197,34 @@ module _ {M : Type 1} (𝓤 : URA M) (H : Heap 𝓤) (A : Atoms 𝓤) (W : Given
       assigns ! (of-opd ! (load ! (from ! (fld ! refl (stop !))) (look-in ! 12 (sub ! 1 refl (whole !))))) (from ! (stop !)) (init ! 8 refl (tt, record { fits = room .0 })) $
       -- check_start(count)
       owned ! usize (Is usize) (uint-makes 𝓤 H A W w64) n _ (refl, room .0) $ use1 W (raw (Starts 𝓤 H A mem run .pre to-start)) goes-start $
-      calls-at ! fm (Starts 𝓤 H A mem run) knowS to-start (and-then ! (load ! (from ! (stop !)) (look ! 9 refl)) (no-more !)) (λ u.
+      calls-at ! fm (Starts 𝓤 H A mem run) knowS to-start (and-then ! (copied ! 9 refl) (no-more !)) (λ u.
       answers-plain ! tt start.ended (start.clauses 𝓤 H A mem run) to-start u (λ a. a ≡ checkStart n) (λ a ws. id⊢ 𝓤 _) (λ a ea.
-      peeks ! N.the-row (Is N.the-row) (shows 𝓤 H A N.the-row) a (u ∷ []) (λ isa. land ! (from ! (stop !)) (init ! 3 refl (LL.lawful N.the-type N′.the-laws 𝓤 H A W .typed a _ isa .0)) $
+      lands-in ! N.the-row a u 3 refl (λ is. LL.lawful N.the-type N′.the-laws 𝓤 H A W .typed a _ is .0) $
       -- [a; _7; …; _0; …; the token; list; list; list]: check_from(list, a)
       move ! (17 ∷ 18 ∷ 0 ∷ []) $ use3 W (raw (Checks 𝓤 H A mem run .pre (to-check a u))) (goes-check a u) $
-      calls-at ! fm (Checks 𝓤 H A mem run) knowC (to-check a u) (and-then ! (load ! (from ! (stop !)) (look ! 13 refl)) (and-then ! (load ! (from ! (stop !)) (look ! 3 refl)) (no-more !))) (λ v.
+      calls-at ! fm (Checks 𝓤 H A mem run) knowC (to-check a u) (and-then ! (copied ! 13 refl) (and-then ! (copied ! 3 refl) (no-more !))) (λ v.
       answers-lent ! tt check.ended (check.clauses 𝓤 H A mem run) (to-check a u) v (λ c. c .refusal ≡ checked ys a) (λ c ws. id⊢ 𝓤 _) (λ c ec.
-      peeks ! N.the-row (Is N.the-row) (shows 𝓤 H A N.the-row) c (v ∷ []) (λ isc. land ! (from ! (stop !)) (init ! 8 refl (LL.lawful N.the-type N′.the-laws 𝓤 H A W .typed c _ isc .0)) $
+      lands-in ! N.the-row c v 8 refl (λ is. LL.lawful N.the-type N′.the-laws 𝓤 H A W .typed c _ is .0) $
       -- [c; the token; _7; …; _0; …; list; list]: search_start(count, x)
       owned ! u64 (Is u64) (uint-makes 𝓤 H A W w64) x _ (refl, fits) $ owned ! usize (Is usize) (uint-makes 𝓤 H A W w64) n _ (refl, room .0) $ use2 W (raw (Spans 𝓤 H A mem run .pre to-span)) goes-span $
-      calls-at ! fm (Spans 𝓤 H A mem run) knowP to-span (and-then ! (load ! (from ! (stop !)) (look ! 11 refl)) (and-then ! (load ! (from ! (stop !)) (look ! 13 refl)) (no-more !))) (λ w.
+      calls-at ! fm (Spans 𝓤 H A mem run) knowP to-span (and-then ! (copied ! 11 refl) (and-then ! (copied ! 13 refl) (no-more !))) (λ w.
       answers-plain ! tt spans.ended (spans.clauses 𝓤 H A mem run) to-span w (λ s. s ≡ searchIn 0 n (bits x)) (λ s ws. id⊢ 𝓤 _) (λ s es.
-      peeks ! S.the-row (Is S.the-row) (shows 𝓤 H A S.the-row) s (w ∷ []) (λ iss. land ! (from ! (stop !)) (init ! 3 refl (LL.lawful S.the-type S′.the-laws 𝓤 H A W .typed s _ iss .0)) $
+      lands-in ! S.the-row s w 3 refl (λ is. LL.lawful S.the-type S′.the-laws 𝓤 H A W .typed s _ is .0) $
       -- [s; c; the token; _7; …; _0; …; list; list]: search_from(list, s)
       move ! (2 ∷ 19 ∷ 0 ∷ []) $ use3 W (raw (Searching 𝓤 H A mem run .pre (to-search s w))) (goes-search s w (subst Searches (sym es) (searching.starts n (bits x)))) $
-      calls-at ! fm (Searching 𝓤 H A mem run) knowF (to-search s w) (and-then ! (load ! (from ! (stop !)) (look ! 14 refl)) (and-then ! (load ! (from ! (stop !)) (look ! 2 refl)) (no-more !))) (λ t.
+      calls-at ! fm (Searching 𝓤 H A mem run) knowF (to-search s w) (and-then ! (copied ! 14 refl) (and-then ! (copied ! 2 refl) (no-more !))) (λ t.
       answers-lent ! tt search.ended (search.clauses 𝓤 H A mem run) (to-search s w) t (λ f. Found s f) (λ f ws. id⊢ 𝓤 _) (λ f ef.
-      peeks ! S.the-row (Is S.the-row) (shows 𝓤 H A S.the-row) f (t ∷ []) (λ isf. land ! (from ! (stop !)) (init ! 7 refl (LL.lawful S.the-type S′.the-laws 𝓤 H A W .typed f _ isf .0)) $
+      lands-in ! S.the-row f t 7 refl (λ is. LL.lawful S.the-type S′.the-laws 𝓤 H A W .typed f _ is .0) $
       -- [f; the token; c; _7; …; _0; …; list]: reply_with(c, x, f)
       owned ! u64 (Is u64) (uint-makes 𝓤 H A W w64) x _ (refl, fits) $ move ! (3 ∷ 0 ∷ 1 ∷ []) $ use3 W (raw (Ends 𝓤 H A mem run .pre (to-finish c v f t))) (goes-finish c v f t) $
-      calls-at ! fm (Ends 𝓤 H A mem run) knowE (to-finish c v f t) (and-then ! (load ! (from ! (stop !)) (look ! 8 refl)) (and-then ! (load ! (from ! (stop !)) (look ! 12 refl)) (and-then ! (load ! (from ! (stop !)) (look ! 6 refl)) (no-more !)))) (λ y.
+      calls-at ! fm (Ends 𝓤 H A mem run) knowE (to-finish c v f t) (and-then ! (copied ! 8 refl) (and-then ! (copied ! 12 refl) (and-then ! (copied ! 6 refl) (no-more !)))) (λ y.
       answers-plain ! tt finish.ended (finish.clauses 𝓤 H A mem run) (to-finish c v f t) y (λ r. Replied c f r) (λ r ws. id⊢ 𝓤 _) (λ r er.
-      peeks ! R.the-row (Is R.the-row) (shows 𝓤 H A R.the-row) r (y ∷ []) (λ isr. land ! (from ! (stop !)) (init ! 16 refl (EL.lawful R.the-type R′.the-laws 𝓤 H A W tt .typed r _ isr .0)) $
+      lands-in ! R.the-row r y 16 refl (λ is. EL.lawful R.the-type R′.the-laws 𝓤 H A W tt .typed r _ is .0) $
       -- [r; the token; _7; …; _0; …; list]
-      returns ! (look ! 16 refl) $ forget ! 2 refl $ forget ! 4 refl $ forget ! 6 refl $ forget ! 8 refl $ forget ! 10 refl $ forget ! 12 refl $ forget ! 14 refl $ forget ! 16 refl $
-      move ! (16 ∷ 17 ∷ []) $ free1 ! $ move ! (14 ∷ 15 ∷ []) $ free1 ! $ move ! (12 ∷ 13 ∷ []) $ free1 ! $ move ! (10 ∷ 11 ∷ []) $ free1 ! $ move ! (8 ∷ 9 ∷ []) $ free1 ! $ move ! (6 ∷ 7 ∷ []) $ free1 ! $ move ! (4 ∷ 5 ∷ []) $ free1 ! $ move ! (2 ∷ 3 ∷ []) $ free1 ! $ free0 ! $
+      returns ! (look ! 16 refl) $
+      gone ! 16 refl refl $ gone ! 14 refl refl $ gone ! 12 refl refl $ gone ! 10 refl refl $ gone ! 8 refl refl $ gone ! 6 refl refl $ gone ! 4 refl refl $ gone ! 2 refl refl $ free0 ! $
       owned ! u64 (Is u64) (uint-makes 𝓤 H A W w64) x _ (refl, fits) $ keep ! (1 ∷ 2 ∷ 3 ∷ 0 ∷ []) $
-      by ! (exits r y (er ys (ec ∙ ap (checked ys) ea ∙ checking.whole ys) (λ good. ef good (subst (λ (z : Search). z .past ≤ n) (sym es) (searching.upto n (bits x))) ∙ ap (searched ys) es ∙ searching.whole ys (bits x)))))))))))))))))))))))))))
+      by ! (exits r y (er ys (ec ∙ ap (checked ys) ea ∙ checking.whole ys) (λ good. ef good (subst (λ (z : Search). z .past ≤ n) (sym es) (searching.upto n (bits x))) ∙ ap (searched ys) es ∙ searching.whole ys (bits x))))))))))))))))))))))
 
 meets : {M : Type 1} (𝓤 : URA M) (H : Heap 𝓤) (A : Atoms 𝓤) (W : Given 𝓤 H A) (mem : Memory → SProp 𝓤) (run : Routine → Fun 𝓤) (𝓣 : Tables 𝓤 H)
     → Triple 𝓤 (𝓣 .C #start) (Starts 𝓤 H A mem run) → Triple 𝓤 (𝓣 .C #check) (Checks 𝓤 H A mem run) → Triple 𝓤 (𝓣 .C #spans) (Spans 𝓤 H A mem run) → Triple 𝓤 (𝓣 .C #search) (Searching 𝓤 H A mem run) → Triple 𝓤 (𝓣 .C #finish) (Ends 𝓤 H A mem run)
