@@ -17,17 +17,17 @@ use ghost.Atoms.{Atoms}
 use contract.Monad.{Fun}
 use contract.Running.{givenOf, tables, tablesOf}
 use types.Kit.{Given, ‵, raw, _⊛_, ⋆, _$_, _∵_, !, qed, by, move, keep, drop, use1, use3, split, join, fsplit, fjoin, suffices, frame, done}
-use types.Run.{look, init, forget, stop, hop, from, load, addr, and-then, no-more, assigns, land, returns, enter, alloc1, alloc0, params1, pass1, pass0, free1, free0}
+use types.Run.{look, init, stop, hop, from, addr, and-then, no-more, assigns, returns, enter, alloc1, alloc0, params1, pass1, pass0, free0}
 use sound.WpLaws.{FmC, fmOf, WpFn-mono}
 use denote.RattleType.{owns}
-use denote.Laws.{Is, shows}
+use denote.Laws.{Is}
 use denote.Plain.{uint-makes, uint-vals, uint-tells, uint-lawful}
 use denote.Builtin.{u8, u64}
 use denote.Enum.Laws as EL
 use denote.Ref.{RefT, MutRef, ptr-vals, mut-tells}
 use denote.Signature.{plain}
 use denote.Slice.{sliceVal, ShrSlice, Room, slice-vals, shr-slice-tells, shr-slice-copy}
-use denote.Steps.{owned, peeks, nothing}
+use denote.Steps.{owned, nothing}
 use denote.Triple.Statement.{Contract, Triple}
 use denote.Triple.Call.{calls-at}
 use denote.Triple.Spec.{tripleOf, Meets}
@@ -46,6 +46,7 @@ use Rattle.reply.proofs.tell.Symbol.{name as #tell}
 use Rattle.reply.proofs.tell.Met as tell-thm
 use Rattle.score_with.specs.Score.{scoredWith}
 use Rattle.score_with.proofs.Answers.{answers}
+use Rattle.score_with.proofs.Locals.{copied, lands-in, gone}
 use Rattle.score_with.proofs.score_with as score
 use Rattle.score_with.proofs.score_with.Symbol as score-def
 use Rattle.score_with.proofs.score_with.Symbol.{name as #score}
@@ -137,23 +138,22 @@ module _ {M : Type 1} (𝓤 : URA M) (H : Heap 𝓤) (A : Atoms 𝓤) (W : Given
       pass1 ! (init ! 8 refl (tt, (tt, (record { fits = room .0 }, tt)))) $ pass1 ! (init ! 6 refl (tt, record { fits = fits })) $ pass1 ! (init ! 4 refl (tt, tt)) $ pass0 ! $
       -- [_5; …; _4; …; _3; …; _2; …; _1; …; room for _0; …; κ; list; x; μ; out; list]: score_with(list, x)
       move ! (12 ∷ 13 ∷ 14 ∷ []) $ use3 W (raw (Scores 𝓤 H A mem run .pre to-score)) goes-score $
-      calls-at ! fm (Scores 𝓤 H A mem run) knowS to-score (and-then ! (load ! (from ! (stop !)) (look ! 9 refl)) (and-then ! (load ! (from ! (stop !)) (look ! 7 refl)) (no-more !))) (λ u.
+      calls-at ! fm (Scores 𝓤 H A mem run) knowS to-score (and-then ! (copied ! 9 refl) (and-then ! (copied ! 7 refl) (no-more !))) (λ u.
       answers ! tt score.ended (score.clauses 𝓤 H A mem run) to-score u (λ r ws. r ≡ scoredWith (list .now) x) (λ r ws. id⊢ 𝓤 _) (λ r none er.
       -- [r; κ; no last value; _5; …; _4; …; _3; …; _2; …; _1; …; room for _0; …; μ; out; list]: &mut *out
-      peeks ! R.the-row (Is R.the-row) (shows 𝓤 H A R.the-row) r (u ∷ []) (λ is. land ! (from ! (stop !)) (init ! 5 refl (EL.lawful R.the-type R′.the-laws 𝓤 H A W tt .typed r _ is .0)) $
+      lands-in ! R.the-row r u 5 refl (λ is. EL.lawful R.the-type R′.the-laws 𝓤 H A W tt .typed r _ is .0) $
       assigns ! (addr ! (from ! (hop ! (look ! 7 refl) (stop !)))) (from ! (stop !)) (init ! 3 refl (tt, tt)) $
       -- tell(r, out)
       move ! (15 ∷ 0 ∷ 16 ∷ []) $ use3 W (raw (Tells 𝓤 H A mem run .pre (to-tell r u))) (goes-tell r u) $
       -- [what tell asks; κ; no last value; _5; …; _4; …; _3; …; _2; …; _1; …; room for _0; …; list]
-      calls-at ! fm (Tells 𝓤 H A mem run) knowT (to-tell r u) (and-then ! (load ! (from ! (stop !)) (look ! 5 refl)) (and-then ! (load ! (from ! (stop !)) (look ! 3 refl)) (no-more !))) (λ v.
+      calls-at ! fm (Tells 𝓤 H A mem run) knowT (to-tell r u) (and-then ! (copied ! 5 refl) (and-then ! (copied ! 3 refl) (no-more !))) (λ v.
       answers ! tt tell.ended (tell.clauses 𝓤 H A mem run) (to-tell r u) v (λ n ws. Told r n (ws .1 .0)) (λ n ws. id⊢ 𝓤 _) (λ n ws en.
       -- [n; μ; out's last value; κ; no last value; _5; …; _4; …; _3; …; _2; …; _1; …; room for _0; …; list]
-      peeks ! u8 (Is u8) (shows 𝓤 H A u8) n (v ∷ []) (λ is′. land ! (from ! (stop !)) (init ! 15 refl (uint-lawful 𝓤 H A W w8 .typed n _ is′ .0)) $
-      returns ! (look ! 15 refl) $ forget ! 5 refl $ forget ! 7 refl $ forget ! 9 refl $ forget ! 11 refl $ forget ! 13 refl $ forget ! 15 refl $
-      move ! (15 ∷ 16 ∷ []) $ free1 ! $ move ! (13 ∷ 14 ∷ []) $ free1 ! $ move ! (11 ∷ 12 ∷ []) $ free1 ! $ move ! (9 ∷ 10 ∷ []) $ free1 ! $ move ! (7 ∷ 8 ∷ []) $ free1 ! $ move ! (5 ∷ 6 ∷ []) $ free1 ! $ free0 ! $
+      lands-in ! u8 n v 15 refl (λ is. uint-lawful 𝓤 H A W w8 .typed n _ is .0) $
+      returns ! (look ! 15 refl) $ gone ! 15 refl refl $ gone ! 13 refl refl $ gone ! 11 refl refl $ gone ! 9 refl refl $ gone ! 7 refl refl $ gone ! 5 refl refl $ free0 ! $
       move ! (2 ∷ []) $ fsplit ! $ owned ! u64 (Is u64) (uint-makes 𝓤 H A W w64) x _ (refl, fits) $
       -- [x; true; out's last value; n; μ; κ; no last value; list]
-      keep ! (3 ∷ 4 ∷ 5 ∷ 2 ∷ 0 ∷ 7 ∷ []) $ by ! (exits n (ws .1 .0) v (en .0 ∙ ap number er, en .1 ∙ ap (λ (s : Reply). result s (out .now)) er))))))))))))))
+      keep ! (3 ∷ 4 ∷ 5 ∷ 2 ∷ 0 ∷ 7 ∷ []) $ by ! (exits n (ws .1 .0) v (en .0 ∙ ap number er, en .1 ∙ ap (λ (s : Reply). result s (out .now)) er))))))))))))
 
 meets : {M : Type 1} (𝓤 : URA M) (H : Heap 𝓤) (A : Atoms 𝓤) (W : Given 𝓤 H A) (mem : Memory → SProp 𝓤) (run : Routine → Fun 𝓤) (𝓣 : Tables 𝓤 H)
     → Triple 𝓤 (𝓣 .C #score) (Scores 𝓤 H A mem run) → Triple 𝓤 (𝓣 .C #tell) (Tells 𝓤 H A mem run) → Meets 𝓤 H A self.signature (WpFn 𝓤 H (𝓣 .C) (𝓣 .Λ) code.function) (self.spec 𝓤 H A mem run)

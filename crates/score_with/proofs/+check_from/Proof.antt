@@ -57,7 +57,8 @@ job 𝓤 H A W = record {
 pub +check-from-spec : {M : Type 1} → cycle.statement M
 unfolding code.check-from-routine tablesOf
 +check-from-spec 𝓤 H 𝓜 𝓖 𝓡 =
-    mutual-elim 𝓤 H (𝓖 .A) (cycle.functions 𝓤 H (𝓖 .A) (𝓜 .mem) (𝓡 .run)) _<_ (Nat·lt-wfRel .wf) (measured 𝓤 H (𝓖 .A) _ (μ 𝓤 H (𝓖 .A) (job 𝓤 H (𝓖 .A) (givenOf 𝓤 H 𝓜 𝓖))))
-    (method 𝓤 H (𝓖 .A) (job 𝓤 H (𝓖 .A) (givenOf 𝓤 H 𝓜 𝓖)) (givenOf 𝓤 H 𝓜 𝓖) (tablesOf 𝓤 H 𝓜 (tables 𝓤 H 𝓜 𝓡 code.env)) #step #self
-    (cited 𝓤 H (Step 𝓤 H (𝓖 .A) (job 𝓤 H (𝓖 .A) (givenOf 𝓤 H 𝓜 𝓖))) 𝓜 𝓡 code.env #step step-def.routine code.calls-exception-list·check-next (step-thm.met 𝓤 H 𝓜 𝓖 𝓡))
+    let j : Job 𝓤 H (𝓖 .A) = job 𝓤 H (𝓖 .A) (givenOf 𝓤 H 𝓜 𝓖) in
+    mutual-elim 𝓤 H (𝓖 .A) (cycle.functions 𝓤 H (𝓖 .A) (𝓜 .mem) (𝓡 .run)) _<_ (Nat·lt-wfRel .wf) (measured 𝓤 H (𝓖 .A) _ (μ 𝓤 H (𝓖 .A) j))
+    (method 𝓤 H (𝓖 .A) j (givenOf 𝓤 H 𝓜 𝓖) (tablesOf 𝓤 H 𝓜 (tables 𝓤 H 𝓜 𝓡 code.env)) #step #self
+    (cited 𝓤 H (Step 𝓤 H (𝓖 .A) j) 𝓜 𝓡 code.env #step step-def.routine code.calls-exception-list·check-next (step-thm.met 𝓤 H 𝓜 𝓖 𝓡))
     (code.check-from-unfolded 𝓤 H 𝓜 𝓡))
