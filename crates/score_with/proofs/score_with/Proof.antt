@@ -104,145 +104,145 @@ module _ {M : Type 1} (𝓤 : URA M) (H : Heap 𝓤) (A : Atoms 𝓤) (mem : Mem
   abbrev Ends : Contract 𝓤
   Ends = tripleOf 𝓤 H A finish.signature (finish.spec 𝓤 H A mem run)
 
-module _ {M : Type 1} (𝓤 : URA M) (H : Heap 𝓤) (A : Atoms 𝓤) (W : Given 𝓤 H A) (mem : Memory → SProp 𝓤) (run : Routine → Fun 𝓤) (κ : Lft) (q : Share) (list : RefT (List Entry)) (x : ℕ) where
-  abbrev ys : List Entry
-  ys = list .now
+  module _ (W : Given 𝓤 H A) (κ : Lft) (q : Share) (list : RefT (List Entry)) (x : ℕ) where
+    abbrev ys : List Entry
+    ys = list .now
 
-  abbrev n : ℕ
-  n = length ys
+    abbrev n : ℕ
+    n = length ys
 
-  -- the machine values: the list's pointer and count, the count, and x
-  abbrev lv : Val
-  lv = sliceVal (list .ptr) n
+    -- the machine values: the list's pointer and count, the count, and x
+    abbrev lv : Val
+    lv = sliceVal (list .ptr) n
 
-  abbrev nv : Val
-  nv = vint w64 n
+    abbrev nv : Val
+    nv = vint w64 n
 
-  abbrev xv : Val
-  xv = vint w64 x
+    abbrev xv : Val
+    xv = vint w64 x
 
-  abbrev at : Whole 𝓤 H A mem run .Ghost
-  at = (((κ, tt), (q, tt), tt, (list, (x, tt)), (lv ∷ [], (xv ∷ [], tt))), tt)
+    abbrev at : Whole .Ghost
+    at = (((κ, tt), (q, tt), tt, (list, (x, tt)), (lv ∷ [], (xv ∷ [], tt))), tt)
 
-  abbrev Own : Fml
-  Own = owns (ShrSlice (named 0) κ E.the-row ∷ u64 ∷ []) (list, (x, tt)) (lv ∷ [], (xv ∷ [], tt))
+    abbrev Own : Fml
+    Own = owns (ShrSlice (named 0) κ E.the-row ∷ u64 ∷ []) (list, (x, tt)) (lv ∷ [], (xv ∷ [], tt))
 
-  abbrev OwnL : Fml
-  OwnL = ShrSlice (named 0) κ E.the-row .own list (lv ∷ [])
+    abbrev OwnL : Fml
+    OwnL = ShrSlice (named 0) κ E.the-row .own list (lv ∷ [])
 
-  abbrev OwnN : Fml
-  OwnN = usize .own n (nv ∷ [])
+    abbrev OwnN : Fml
+    OwnN = usize .own n (nv ∷ [])
 
-  abbrev OwnX : Fml
-  OwnX = u64 .own x (xv ∷ [])
+    abbrev OwnX : Fml
+    OwnX = u64 .own x (xv ∷ [])
 
-  exits : (r : Reply) (u : Val) → r ≡ scoredWith ys x → ent 𝓤 (⋆ 𝓤 H A (‵ (R.the-row .own r (u ∷ [])) ∷ (‵ (flft κ q) ⊛ ‵ ftrue) ∷ ‵ OwnL ∷ ‵ OwnX ∷ [])) (Whole 𝓤 H A mem run .post at u)
-  exits r u e =
-      qed W (‵ (R.the-row .own r (u ∷ [])) ∷ (‵ (flft κ q) ⊛ ‵ ftrue) ∷ ‵ OwnL ∷ ‵ OwnX ∷ []) ∵
-      suffices ! _ (ends-at 𝓤 H A self.ended stayed (self.clauses 𝓤 H A mem run) W at u r (tt, (tt, tt)) (tt, (tt, tt))) $ says ! e $
-      -- the token, what is had of the parameters, and the result
-      move ! (1 ∷ []) $ frame ! $ nothing ! $ move ! (3 ∷ 0 ∷ []) $ fjoin ! $ move ! (2 ∷ 0 ∷ []) $ fjoin ! $ frame ! $ done !
+    exits : (r : Reply) (u : Val) → r ≡ scoredWith ys x → ent 𝓤 (⋆ 𝓤 H A (‵ (R.the-row .own r (u ∷ [])) ∷ (‵ (flft κ q) ⊛ ‵ ftrue) ∷ ‵ OwnL ∷ ‵ OwnX ∷ [])) (Whole .post at u)
+    exits r u e =
+        qed W (‵ (R.the-row .own r (u ∷ [])) ∷ (‵ (flft κ q) ⊛ ‵ ftrue) ∷ ‵ OwnL ∷ ‵ OwnX ∷ []) ∵
+        suffices ! _ (ends-at 𝓤 H A self.ended stayed (self.clauses 𝓤 H A mem run) W at u r (tt, (tt, tt)) (tt, (tt, tt))) $ says ! e $
+        -- the token, what is had of the parameters, and the result
+        move ! (1 ∷ []) $ frame ! $ nothing ! $ move ! (3 ∷ 0 ∷ []) $ fjoin ! $ move ! (2 ∷ 0 ∷ []) $ fjoin ! $ frame ! $ done !
 
-  -- ---- what each callee is passed, and what it asks
-  abbrev to-start : Starts 𝓤 H A mem run .Ghost
-  to-start = ((tt, tt, tt, (n, tt), (nv ∷ [], tt)), tt)
+    -- ---- what each callee is passed, and what it asks
+    abbrev to-start : Starts .Ghost
+    to-start = ((tt, tt, tt, (n, tt), (nv ∷ [], tt)), tt)
 
-  goes-start : ent 𝓤 (⋆ 𝓤 H A (‵ OwnN ∷ [])) (Starts 𝓤 H A mem run .pre to-start)
-  goes-start = qed W (‵ OwnN ∷ []) ∵ nothing ! $ move ! (1 ∷ 0 ∷ []) $ join ! $ nothing ! $ join ! $ frame ! $ done !
+    goes-start : ent 𝓤 (⋆ 𝓤 H A (‵ OwnN ∷ [])) (Starts .pre to-start)
+    goes-start = qed W (‵ OwnN ∷ []) ∵ nothing ! $ move ! (1 ∷ 0 ∷ []) $ join ! $ nothing ! $ join ! $ frame ! $ done !
 
-  abbrev to-check : Check → Val → Checks 𝓤 H A mem run .Ghost
-  to-check a u = (((κ, tt), (q, tt), tt, (list, (a, tt)), (lv ∷ [], (u ∷ [], tt))), tt)
+    abbrev to-check : Check → Val → Checks .Ghost
+    to-check a u = (((κ, tt), (q, tt), tt, (list, (a, tt)), (lv ∷ [], (u ∷ [], tt))), tt)
 
-  goes-check : (a : Check) (u : Val) → ent 𝓤 (⋆ 𝓤 H A ((‵ (flft κ q) ⊛ ‵ ftrue) ∷ ‵ OwnL ∷ ‵ (N.the-row .own a (u ∷ [])) ∷ [])) (Checks 𝓤 H A mem run .pre (to-check a u))
-  goes-check a u = qed W ((‵ (flft κ q) ⊛ ‵ ftrue) ∷ ‵ OwnL ∷ ‵ (N.the-row .own a (u ∷ [])) ∷ []) ∵ nothing ! $ move ! (3 ∷ 0 ∷ []) $ fjoin ! $ move ! (2 ∷ 0 ∷ []) $ fjoin ! $ move ! (1 ∷ 0 ∷ []) $ join ! $ frame ! $ done !
+    goes-check : (a : Check) (u : Val) → ent 𝓤 (⋆ 𝓤 H A ((‵ (flft κ q) ⊛ ‵ ftrue) ∷ ‵ OwnL ∷ ‵ (N.the-row .own a (u ∷ [])) ∷ [])) (Checks .pre (to-check a u))
+    goes-check a u = qed W ((‵ (flft κ q) ⊛ ‵ ftrue) ∷ ‵ OwnL ∷ ‵ (N.the-row .own a (u ∷ [])) ∷ []) ∵ nothing ! $ move ! (3 ∷ 0 ∷ []) $ fjoin ! $ move ! (2 ∷ 0 ∷ []) $ fjoin ! $ move ! (1 ∷ 0 ∷ []) $ join ! $ frame ! $ done !
 
-  abbrev to-span : Spans 𝓤 H A mem run .Ghost
-  to-span = ((tt, tt, tt, (n, (x, tt)), (nv ∷ [], (xv ∷ [], tt))), tt)
+    abbrev to-span : Spans .Ghost
+    to-span = ((tt, tt, tt, (n, (x, tt)), (nv ∷ [], (xv ∷ [], tt))), tt)
 
-  goes-span : ent 𝓤 (⋆ 𝓤 H A (‵ OwnN ∷ ‵ OwnX ∷ [])) (Spans 𝓤 H A mem run .pre to-span)
-  goes-span = qed W (‵ OwnN ∷ ‵ OwnX ∷ []) ∵ nothing ! $ move ! (2 ∷ 0 ∷ []) $ fjoin ! $ move ! (1 ∷ 0 ∷ []) $ fjoin ! $ nothing ! $ join ! $ frame ! $ done !
+    goes-span : ent 𝓤 (⋆ 𝓤 H A (‵ OwnN ∷ ‵ OwnX ∷ [])) (Spans .pre to-span)
+    goes-span = qed W (‵ OwnN ∷ ‵ OwnX ∷ []) ∵ nothing ! $ move ! (2 ∷ 0 ∷ []) $ fjoin ! $ move ! (1 ∷ 0 ∷ []) $ fjoin ! $ nothing ! $ join ! $ frame ! $ done !
 
-  abbrev to-search : Search → Val → Searching 𝓤 H A mem run .Ghost
-  to-search s u = (((κ, tt), (q, tt), tt, (list, (s, tt)), (lv ∷ [], (u ∷ [], tt))), tt)
+    abbrev to-search : Search → Val → Searching .Ghost
+    to-search s u = (((κ, tt), (q, tt), tt, (list, (s, tt)), (lv ∷ [], (u ∷ [], tt))), tt)
 
-  goes-search : (s : Search) (u : Val) → Searches s → ent 𝓤 (⋆ 𝓤 H A ((‵ (flft κ q) ⊛ ‵ ftrue) ∷ ‵ OwnL ∷ ‵ (S.the-row .own s (u ∷ [])) ∷ [])) (Searching 𝓤 H A mem run .pre (to-search s u))
-  goes-search s u ok = qed W ((‵ (flft κ q) ⊛ ‵ ftrue) ∷ ‵ OwnL ∷ ‵ (S.the-row .own s (u ∷ [])) ∷ []) ∵ says ! ok $ nothing ! $ move ! (3 ∷ 0 ∷ []) $ fjoin ! $ move ! (2 ∷ 0 ∷ []) $ fjoin ! $ move ! (1 ∷ 0 ∷ []) $ done !
+    goes-search : (s : Search) (u : Val) → Searches s → ent 𝓤 (⋆ 𝓤 H A ((‵ (flft κ q) ⊛ ‵ ftrue) ∷ ‵ OwnL ∷ ‵ (S.the-row .own s (u ∷ [])) ∷ [])) (Searching .pre (to-search s u))
+    goes-search s u ok = qed W ((‵ (flft κ q) ⊛ ‵ ftrue) ∷ ‵ OwnL ∷ ‵ (S.the-row .own s (u ∷ [])) ∷ []) ∵ says ! ok $ nothing ! $ move ! (3 ∷ 0 ∷ []) $ fjoin ! $ move ! (2 ∷ 0 ∷ []) $ fjoin ! $ move ! (1 ∷ 0 ∷ []) $ done !
 
-  abbrev to-finish : Check → Val → Search → Val → Ends 𝓤 H A mem run .Ghost
-  to-finish c v f t = ((tt, tt, tt, (c, (x, (f, tt))), (v ∷ [], (xv ∷ [], (t ∷ [], tt)))), tt)
+    abbrev to-finish : Check → Val → Search → Val → Ends .Ghost
+    to-finish c v f t = ((tt, tt, tt, (c, (x, (f, tt))), (v ∷ [], (xv ∷ [], (t ∷ [], tt)))), tt)
 
-  goes-finish : (c : Check) (v : Val) (f : Search) (t : Val) → ent 𝓤 (⋆ 𝓤 H A (‵ (N.the-row .own c (v ∷ [])) ∷ ‵ OwnX ∷ ‵ (S.the-row .own f (t ∷ [])) ∷ [])) (Ends 𝓤 H A mem run .pre (to-finish c v f t))
-  goes-finish c v f t = qed W (‵ (N.the-row .own c (v ∷ [])) ∷ ‵ OwnX ∷ ‵ (S.the-row .own f (t ∷ [])) ∷ []) ∵ nothing ! $ move ! (3 ∷ 0 ∷ []) $ fjoin ! $ move ! (2 ∷ 0 ∷ []) $ fjoin ! $ move ! (1 ∷ 0 ∷ []) $ fjoin ! $ nothing ! $ join ! $ frame ! $ done !
+    goes-finish : (c : Check) (v : Val) (f : Search) (t : Val) → ent 𝓤 (⋆ 𝓤 H A (‵ (N.the-row .own c (v ∷ [])) ∷ ‵ OwnX ∷ ‵ (S.the-row .own f (t ∷ [])) ∷ [])) (Ends .pre (to-finish c v f t))
+    goes-finish c v f t = qed W (‵ (N.the-row .own c (v ∷ [])) ∷ ‵ OwnX ∷ ‵ (S.the-row .own f (t ∷ [])) ∷ []) ∵ nothing ! $ move ! (3 ∷ 0 ∷ []) $ fjoin ! $ move ! (2 ∷ 0 ∷ []) $ fjoin ! $ move ! (1 ∷ 0 ∷ []) $ fjoin ! $ nothing ! $ join ! $ frame ! $ done !
 
-  -- what the last two say
-  abbrev Found : Search → Search → Type 0
-  Found s f = refusalOf ys ≡ 0 → s .past ≤ n → f .found ≡ searched ys s
+    -- what the last two say
+    abbrev Found : Search → Search → Type 0
+    Found s f = refusalOf ys ≡ 0 → s .past ≤ n → f .found ≡ searched ys s
 
-  abbrev Replied : Check → Search → Reply → Type 0
-  Replied c f r = (l : List Entry) → c .refusal ≡ refusalOf l → (refusalOf l ≡ 0 → f .found ≡ find l (bits x)) → r ≡ scoredWith l x
+    abbrev Replied : Check → Search → Reply → Type 0
+    Replied c f r = (l : List Entry) → c .refusal ≡ refusalOf l → (refusalOf l ≡ 0 → f .found ≡ find l (bits x)) → r ≡ scoredWith l x
 
-  walk : (C : Calls 𝓤 H) (Λ : Loops 𝓤 H) → FmC 𝓤 H (W .laws) C → Triple 𝓤 (C #start) (Starts 𝓤 H A mem run) → Triple 𝓤 (C #check) (Checks 𝓤 H A mem run) → Triple 𝓤 (C #spans) (Spans 𝓤 H A mem run)
-      → Triple 𝓤 (C #search) (Searching 𝓤 H A mem run) → Triple 𝓤 (C #finish) (Ends 𝓤 H A mem run) → Room E.the-row n → x < 2 ^ 64
-      → ent 𝓤 (Whole 𝓤 H A mem run .pre at) (WpFn 𝓤 H C Λ code.function (lv ∷ xv ∷ []) (Whole 𝓤 H A mem run .post at))
-  walk C Λ fm knowS knowC knowP knowF knowE room fits =
-      qed W (((‵ (flft κ q) ⊛ ‵ ftrue) ⊛ ‵ Own) ∷ ‵ ftrue ∷ []) ∵
-      -- list is Copy: for `check_from`, for `search_from`, and for the exit
-      split ! $ move ! (1 ∷ []) $ fsplit ! $ use1 W (‵ OwnL ⊛ ‵ OwnL) (shr-slice-copy 𝓤 H A W (named 0) κ E.the-row .twice list (lv ∷ [])) $ split ! $
-      use1 W (‵ OwnL ⊛ ‵ OwnL) (shr-slice-copy 𝓤 H A W (named 0) κ E.the-row .twice list (lv ∷ [])) $ split ! $ keep ! (4 ∷ 0 ∷ 1 ∷ 2 ∷ []) $
-      -- [the token; list; list; list]
-      enter ! C Λ code.function (lv ∷ xv ∷ []) _ $
-      alloc1 ! (λ l₀. alloc1 ! (λ l₁. alloc1 ! (λ l₂. alloc1 ! (λ l₃. alloc1 ! (λ l₄. alloc1 ! (λ l₅. alloc1 ! (λ l₆. alloc1 ! (λ l₇. alloc0 ! $ params1 ! $
-      pass1 ! (init ! 12 refl (tt, (tt, (record { fits = room .0 }, tt)))) $ pass1 ! (init ! 10 refl (tt, record { fits = fits })) $ pass0 ! $
-      -- [_7; …; _0; …; the token; list; list; list]: count = list.len()
-      assigns ! (of-opd ! (load ! (from ! (fld ! refl (stop !))) (look-in ! 12 (sub ! 1 refl (whole !))))) (from ! (stop !)) (init ! 8 refl (tt, record { fits = room .0 })) $
-      -- check_start(count)
-      owned ! usize (Is usize) (uint-makes 𝓤 H A W w64) n _ (refl, room .0) $ use1 W (raw (Starts 𝓤 H A mem run .pre to-start)) goes-start $
-      calls-at ! fm (Starts 𝓤 H A mem run) knowS to-start (and-then ! (copied ! 9 refl) (no-more !)) (λ u.
-      answers-plain ! tt start.ended (start.clauses 𝓤 H A mem run) to-start u (λ a. a ≡ checkStart n) (λ a ws. id⊢ 𝓤 _) (λ a ea.
-      lands-in ! N.the-row a u 3 refl (λ is. LL.lawful N.the-type N′.the-laws 𝓤 H A W .typed a _ is .0) $
-      -- [a; _7; …; _0; …; the token; list; list; list]: check_from(list, a)
-      move ! (17 ∷ 18 ∷ 0 ∷ []) $ use3 W (raw (Checks 𝓤 H A mem run .pre (to-check a u))) (goes-check a u) $
-      calls-at ! fm (Checks 𝓤 H A mem run) knowC (to-check a u) (and-then ! (copied ! 13 refl) (and-then ! (copied ! 3 refl) (no-more !))) (λ v.
-      answers-lent ! tt check.ended (check.clauses 𝓤 H A mem run) (to-check a u) v (λ c. c .refusal ≡ checked ys a) (λ c ws. id⊢ 𝓤 _) (λ c ec.
-      lands-in ! N.the-row c v 8 refl (λ is. LL.lawful N.the-type N′.the-laws 𝓤 H A W .typed c _ is .0) $
-      -- [c; the token; _7; …; _0; …; list; list]: search_start(count, x)
-      owned ! u64 (Is u64) (uint-makes 𝓤 H A W w64) x _ (refl, fits) $ owned ! usize (Is usize) (uint-makes 𝓤 H A W w64) n _ (refl, room .0) $ use2 W (raw (Spans 𝓤 H A mem run .pre to-span)) goes-span $
-      calls-at ! fm (Spans 𝓤 H A mem run) knowP to-span (and-then ! (copied ! 11 refl) (and-then ! (copied ! 13 refl) (no-more !))) (λ w.
-      answers-plain ! tt spans.ended (spans.clauses 𝓤 H A mem run) to-span w (λ s. s ≡ searchIn 0 n (bits x)) (λ s ws. id⊢ 𝓤 _) (λ s es.
-      lands-in ! S.the-row s w 3 refl (λ is. LL.lawful S.the-type S′.the-laws 𝓤 H A W .typed s _ is .0) $
-      -- [s; c; the token; _7; …; _0; …; list; list]: search_from(list, s)
-      move ! (2 ∷ 19 ∷ 0 ∷ []) $ use3 W (raw (Searching 𝓤 H A mem run .pre (to-search s w))) (goes-search s w (subst Searches (sym es) (searching.starts n (bits x)))) $
-      calls-at ! fm (Searching 𝓤 H A mem run) knowF (to-search s w) (and-then ! (copied ! 14 refl) (and-then ! (copied ! 2 refl) (no-more !))) (λ t.
-      answers-lent ! tt search.ended (search.clauses 𝓤 H A mem run) (to-search s w) t (λ f. Found s f) (λ f ws. id⊢ 𝓤 _) (λ f ef.
-      lands-in ! S.the-row f t 7 refl (λ is. LL.lawful S.the-type S′.the-laws 𝓤 H A W .typed f _ is .0) $
-      -- [f; the token; c; _7; …; _0; …; list]: reply_with(c, x, f)
-      owned ! u64 (Is u64) (uint-makes 𝓤 H A W w64) x _ (refl, fits) $ move ! (3 ∷ 0 ∷ 1 ∷ []) $ use3 W (raw (Ends 𝓤 H A mem run .pre (to-finish c v f t))) (goes-finish c v f t) $
-      calls-at ! fm (Ends 𝓤 H A mem run) knowE (to-finish c v f t) (and-then ! (copied ! 8 refl) (and-then ! (copied ! 12 refl) (and-then ! (copied ! 6 refl) (no-more !)))) (λ y.
-      answers-plain ! tt finish.ended (finish.clauses 𝓤 H A mem run) (to-finish c v f t) y (λ r. Replied c f r) (λ r ws. id⊢ 𝓤 _) (λ r er.
-      lands-in ! R.the-row r y 16 refl (λ is. EL.lawful R.the-type R′.the-laws 𝓤 H A W tt .typed r _ is .0) $
-      -- [r; the token; _7; …; _0; …; list]
-      returns ! (look ! 16 refl) $
-      gone ! 16 refl refl $ gone ! 14 refl refl $ gone ! 12 refl refl $ gone ! 10 refl refl $ gone ! 8 refl refl $ gone ! 6 refl refl $ gone ! 4 refl refl $ gone ! 2 refl refl $ free0 ! $
-      owned ! u64 (Is u64) (uint-makes 𝓤 H A W w64) x _ (refl, fits) $ keep ! (1 ∷ 2 ∷ 3 ∷ 0 ∷ []) $
-      by ! (exits r y (er ys (ec ∙ ap (checked ys) ea ∙ checking.whole ys) (λ good. ef good (subst (λ (z : Search). z .past ≤ n) (sym es) (searching.upto n (bits x))) ∙ ap (searched ys) es ∙ searching.whole ys (bits x))))))))))))))))))))))
+    walk : (C : Calls 𝓤 H) (Λ : Loops 𝓤 H) → FmC 𝓤 H (W .laws) C → Triple 𝓤 (C #start) Starts → Triple 𝓤 (C #check) Checks → Triple 𝓤 (C #spans) Spans
+        → Triple 𝓤 (C #search) Searching → Triple 𝓤 (C #finish) Ends → Room E.the-row n → x < 2 ^ 64
+        → ent 𝓤 (Whole .pre at) (WpFn 𝓤 H C Λ code.function (lv ∷ xv ∷ []) (Whole .post at))
+    walk C Λ fm knowS knowC knowP knowF knowE room fits =
+        let twice = shr-slice-copy 𝓤 H A W (named 0) κ E.the-row .twice list (lv ∷ []) in
+        qed W (((‵ (flft κ q) ⊛ ‵ ftrue) ⊛ ‵ Own) ∷ ‵ ftrue ∷ []) ∵
+        -- list is Copy: for `check_from`, for `search_from`, and for the exit
+        split ! $ move ! (1 ∷ []) $ fsplit ! $ use1 W (‵ OwnL ⊛ ‵ OwnL) twice $ split ! $ use1 W (‵ OwnL ⊛ ‵ OwnL) twice $ split ! $ keep ! (4 ∷ 0 ∷ 1 ∷ 2 ∷ []) $
+        -- [the token; list; list; list]
+        enter ! C Λ code.function (lv ∷ xv ∷ []) _ $
+        alloc1 ! (λ l₀. alloc1 ! (λ l₁. alloc1 ! (λ l₂. alloc1 ! (λ l₃. alloc1 ! (λ l₄. alloc1 ! (λ l₅. alloc1 ! (λ l₆. alloc1 ! (λ l₇. alloc0 ! $ params1 ! $
+        pass1 ! (init ! 12 refl (tt, (tt, (record { fits = room .0 }, tt)))) $ pass1 ! (init ! 10 refl (tt, record { fits = fits })) $ pass0 ! $
+        -- [_7; …; _0; …; the token; list; list; list]: count = list.len()
+        assigns ! (of-opd ! (load ! (from ! (fld ! refl (stop !))) (look-in ! 12 (sub ! 1 refl (whole !))))) (from ! (stop !)) (init ! 8 refl (tt, record { fits = room .0 })) $
+        -- check_start(count)
+        owned ! usize (Is usize) (uint-makes 𝓤 H A W w64) n _ (refl, room .0) $ use1 W (raw (Starts .pre to-start)) goes-start $
+        calls-at ! fm Starts knowS to-start (and-then ! (copied ! 9 refl) (no-more !)) (λ u.
+        answers-plain ! tt start.ended (start.clauses 𝓤 H A mem run) to-start u (λ a. a ≡ checkStart n) (λ a ws. id⊢ 𝓤 _) (λ a ea.
+        lands-in ! N.the-row a u 3 refl (λ is. LL.lawful N.the-type N′.the-laws 𝓤 H A W .typed a _ is .0) $
+        -- [a; _7; …; _0; …; the token; list; list; list]: check_from(list, a)
+        move ! (17 ∷ 18 ∷ 0 ∷ []) $ use3 W (raw (Checks .pre (to-check a u))) (goes-check a u) $
+        calls-at ! fm Checks knowC (to-check a u) (and-then ! (copied ! 13 refl) (and-then ! (copied ! 3 refl) (no-more !))) (λ v.
+        answers-lent ! tt check.ended (check.clauses 𝓤 H A mem run) (to-check a u) v (λ c. c .refusal ≡ checked ys a) (λ c ws. id⊢ 𝓤 _) (λ c ec.
+        lands-in ! N.the-row c v 8 refl (λ is. LL.lawful N.the-type N′.the-laws 𝓤 H A W .typed c _ is .0) $
+        -- [c; the token; _7; …; _0; …; list; list]: search_start(count, x)
+        owned ! u64 (Is u64) (uint-makes 𝓤 H A W w64) x _ (refl, fits) $ owned ! usize (Is usize) (uint-makes 𝓤 H A W w64) n _ (refl, room .0) $ use2 W (raw (Spans .pre to-span)) goes-span $
+        calls-at ! fm Spans knowP to-span (and-then ! (copied ! 11 refl) (and-then ! (copied ! 13 refl) (no-more !))) (λ w.
+        answers-plain ! tt spans.ended (spans.clauses 𝓤 H A mem run) to-span w (λ s. s ≡ searchIn 0 n (bits x)) (λ s ws. id⊢ 𝓤 _) (λ s es.
+        lands-in ! S.the-row s w 3 refl (λ is. LL.lawful S.the-type S′.the-laws 𝓤 H A W .typed s _ is .0) $
+        -- [s; c; the token; _7; …; _0; …; list; list]: search_from(list, s)
+        move ! (2 ∷ 19 ∷ 0 ∷ []) $ use3 W (raw (Searching .pre (to-search s w))) (goes-search s w (subst Searches (sym es) (searching.starts n (bits x)))) $
+        calls-at ! fm Searching knowF (to-search s w) (and-then ! (copied ! 14 refl) (and-then ! (copied ! 2 refl) (no-more !))) (λ t.
+        answers-lent ! tt search.ended (search.clauses 𝓤 H A mem run) (to-search s w) t (λ f. Found s f) (λ f ws. id⊢ 𝓤 _) (λ f ef.
+        lands-in ! S.the-row f t 7 refl (λ is. LL.lawful S.the-type S′.the-laws 𝓤 H A W .typed f _ is .0) $
+        -- [f; the token; c; _7; …; _0; …; list]: reply_with(c, x, f)
+        owned ! u64 (Is u64) (uint-makes 𝓤 H A W w64) x _ (refl, fits) $ move ! (3 ∷ 0 ∷ 1 ∷ []) $ use3 W (raw (Ends .pre (to-finish c v f t))) (goes-finish c v f t) $
+        calls-at ! fm Ends knowE (to-finish c v f t) (and-then ! (copied ! 8 refl) (and-then ! (copied ! 12 refl) (and-then ! (copied ! 6 refl) (no-more !)))) (λ y.
+        answers-plain ! tt finish.ended (finish.clauses 𝓤 H A mem run) (to-finish c v f t) y (λ r. Replied c f r) (λ r ws. id⊢ 𝓤 _) (λ r er.
+        lands-in ! R.the-row r y 16 refl (λ is. EL.lawful R.the-type R′.the-laws 𝓤 H A W tt .typed r _ is .0) $
+        -- [r; the token; _7; …; _0; …; list]
+        returns ! (look ! 16 refl) $
+        gone ! 16 refl refl $ gone ! 14 refl refl $ gone ! 12 refl refl $ gone ! 10 refl refl $ gone ! 8 refl refl $ gone ! 6 refl refl $ gone ! 4 refl refl $ gone ! 2 refl refl $ free0 ! $
+        owned ! u64 (Is u64) (uint-makes 𝓤 H A W w64) x _ (refl, fits) $ keep ! (1 ∷ 2 ∷ 3 ∷ 0 ∷ []) $
+        by ! (exits r y (er ys (ec ∙ ap (checked ys) ea ∙ checking.whole ys) (λ good. ef good (subst (λ (z : Search). z .past ≤ n) (sym es) (searching.upto n (bits x))) ∙ ap (searched ys) es ∙ searching.whole ys (bits x))))))))))))))))))))))
 
-meets : {M : Type 1} (𝓤 : URA M) (H : Heap 𝓤) (A : Atoms 𝓤) (W : Given 𝓤 H A) (mem : Memory → SProp 𝓤) (run : Routine → Fun 𝓤) (𝓣 : Tables 𝓤 H)
-    → Triple 𝓤 (𝓣 .C #start) (Starts 𝓤 H A mem run) → Triple 𝓤 (𝓣 .C #check) (Checks 𝓤 H A mem run) → Triple 𝓤 (𝓣 .C #spans) (Spans 𝓤 H A mem run) → Triple 𝓤 (𝓣 .C #search) (Searching 𝓤 H A mem run) → Triple 𝓤 (𝓣 .C #finish) (Ends 𝓤 H A mem run)
-    → Meets 𝓤 H A self.signature (WpFn 𝓤 H (𝓣 .C) (𝓣 .Λ) code.function) (self.spec 𝓤 H A mem run)
-meets 𝓤 H A W mem run 𝓣 knowS knowC knowP knowF knowE =
-    walk-meets 𝓤 H A self.ended stayed W (goes-none-slice 𝓤 H A W 1 (0 ∷ []) tt (plain (λ _. E.the-row)) yes, (goes-none 𝓤 H A W 1 (λ _. u64) yes (λ κs x f. refl), tt)) (self.clauses 𝓤 H A mem run)
-    (WpFn 𝓤 H (𝓣 .C) (𝓣 .Λ) code.function) (WpFn-mono 𝓤 H (W .laws) 𝓣 code.function)
-    (walked 𝓤 H A self.ended stayed (self.clauses 𝓤 H A mem run) (WpFn 𝓤 H (𝓣 .C) (𝓣 .Λ) code.function) (λ κs. (slice-vals, (uint-vals w64, tt))) (λ κs. (shr-slice-tells (named 0) (κs .0) E.the-row, (uint-tells w64, tt)))
-    (λ κs qs bounds a g are. walk 𝓤 H A W mem run (κs .0) (qs .0) (a .0) (a .1 .0) (𝓣 .C) (𝓣 .Λ) (fmOf 𝓤 H (W .laws) 𝓣) knowS knowC knowP knowF knowE (are .0 .0 .1) (are .1 .0 .1)))
+  meets : (W : Given 𝓤 H A) (𝓣 : Tables 𝓤 H)
+      → Triple 𝓤 (𝓣 .C #start) Starts → Triple 𝓤 (𝓣 .C #check) Checks → Triple 𝓤 (𝓣 .C #spans) Spans → Triple 𝓤 (𝓣 .C #search) Searching → Triple 𝓤 (𝓣 .C #finish) Ends
+      → Meets 𝓤 H A self.signature (WpFn 𝓤 H (𝓣 .C) (𝓣 .Λ) code.function) (self.spec 𝓤 H A mem run)
+  meets W 𝓣 knowS knowC knowP knowF knowE =
+      walk-meets 𝓤 H A self.ended stayed W (goes-none-slice 𝓤 H A W 1 (0 ∷ []) tt (plain (λ _. E.the-row)) yes, (goes-none 𝓤 H A W 1 (λ _. u64) yes (λ κs x f. refl), tt)) (self.clauses 𝓤 H A mem run)
+      (WpFn 𝓤 H (𝓣 .C) (𝓣 .Λ) code.function) (WpFn-mono 𝓤 H (W .laws) 𝓣 code.function)
+      (walked 𝓤 H A self.ended stayed (self.clauses 𝓤 H A mem run) (WpFn 𝓤 H (𝓣 .C) (𝓣 .Λ) code.function) (λ κs. (slice-vals, (uint-vals w64, tt))) (λ κs. (shr-slice-tells (named 0) (κs .0) E.the-row, (uint-tells w64, tt)))
+      (λ κs qs bounds a g are. walk W (κs .0) (qs .0) (a .0) (a .1 .0) (𝓣 .C) (𝓣 .Λ) (fmOf 𝓤 H (W .laws) 𝓣) knowS knowC knowP knowF knowE (are .0 .0 .1) (are .1 .0 .1)))
 
 pub score-with-spec : {M : Type 1} → stated.statement M
 unfolding code.routine tablesOf
 score-with-spec 𝓤 H 𝓜 𝓖 𝓡 =
     entered 𝓤 H (tripleOf 𝓤 H (𝓖 .A) self.signature (self.spec 𝓤 H (𝓖 .A) (𝓜 .mem) (𝓡 .run)))
     (tables 𝓤 H 𝓜 𝓡 code.env .C) (tables 𝓤 H 𝓜 𝓡 code.env .Λ) #self code.function (code.unfolded 𝓤 H 𝓜 𝓡)
-    (meets 𝓤 H (𝓖 .A) (givenOf 𝓤 H 𝓜 𝓖) (𝓜 .mem) (𝓡 .run) (tablesOf 𝓤 H 𝓜 (tables 𝓤 H 𝓜 𝓡 code.env))
-    (cited 𝓤 H (Starts 𝓤 H (𝓖 .A) (𝓜 .mem) (𝓡 .run)) 𝓜 𝓡 code.env #start start-def.routine code.calls-exception-list·check-start (start-thm.met 𝓤 H 𝓜 𝓖 𝓡))
-    (cited 𝓤 H (Checks 𝓤 H (𝓖 .A) (𝓜 .mem) (𝓡 .run)) 𝓜 𝓡 code.env #check check-def.routine code.calls-score-with·check-from (check-thm.met 𝓤 H 𝓜 𝓖 𝓡))
-    (cited 𝓤 H (Spans 𝓤 H (𝓖 .A) (𝓜 .mem) (𝓡 .run)) 𝓜 𝓡 code.env #spans spans-def.routine code.calls-exception-list·search-start (spans-thm.met 𝓤 H 𝓜 𝓖 𝓡))
-    (cited 𝓤 H (Searching 𝓤 H (𝓖 .A) (𝓜 .mem) (𝓡 .run)) 𝓜 𝓡 code.env #search search-def.routine code.calls-score-with·search-from (search-thm.met 𝓤 H 𝓜 𝓖 𝓡))
-    (cited 𝓤 H (Ends 𝓤 H (𝓖 .A) (𝓜 .mem) (𝓡 .run)) 𝓜 𝓡 code.env #finish finish-def.routine code.calls-score-with·reply-with (finish-thm.met 𝓤 H 𝓜 𝓖 𝓡)))
+    (meets 𝓤 H (𝓖 .A) (𝓜 .mem) (𝓡 .run) (givenOf 𝓤 H 𝓜 𝓖) (tablesOf 𝓤 H 𝓜 (tables 𝓤 H 𝓜 𝓡 code.env))
+    (cited 𝓤 H _ 𝓜 𝓡 code.env #start start-def.routine code.calls-exception-list·check-start (start-thm.met 𝓤 H 𝓜 𝓖 𝓡))
+    (cited 𝓤 H _ 𝓜 𝓡 code.env #check check-def.routine code.calls-score-with·check-from (check-thm.met 𝓤 H 𝓜 𝓖 𝓡))
+    (cited 𝓤 H _ 𝓜 𝓡 code.env #spans spans-def.routine code.calls-exception-list·search-start (spans-thm.met 𝓤 H 𝓜 𝓖 𝓡))
+    (cited 𝓤 H _ 𝓜 𝓡 code.env #search search-def.routine code.calls-score-with·search-from (search-thm.met 𝓤 H 𝓜 𝓖 𝓡))
+    (cited 𝓤 H _ 𝓜 𝓡 code.env #finish finish-def.routine code.calls-score-with·reply-with (finish-thm.met 𝓤 H 𝓜 𝓖 𝓡)))
