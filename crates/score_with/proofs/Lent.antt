@@ -20,7 +20,7 @@ use base.Fml.{Lft, Share, Fml, ftrue, fat, flft}
 use prog.Wp.{Heap, Calls, Loops, Env, WpFn, Tables, Closed}
 use ghost.Atoms.{Atoms}
 use contract.Monad.{fact, Fun}
-use types.Kit.{Given, ‵, raw, _⊛_, ⋆, atRet, _$_, _∵_, !, qed, by, move, keep, drop, use0, use1, use2, use3, rewrite, split, join, fsplit, fjoin, suffices, frame, done}
+use types.Kit.{Given, Item, ‵, raw, _⊛_, ⋆, atRet, _$_, _∵_, !, qed, by, move, keep, drop, use0, use1, use2, use3, rewrite, split, join, fsplit, fjoin, suffices, frame, done}
 use types.Part.{whole, sub, look-in}
 use types.Run.{look, look-raw, init, store, stop, hop, fld, from, load, lit, of-opd, bin, and-then, no-more, assigns, first, skips, branches, returns-within, returns, enter, alloc1, alloc0, params1, pass1, pass0, free1, free0, exec}
 use sound.WpLaws.{FmC, fmOf, WpFn-mono}
@@ -173,6 +173,9 @@ module _ {M : Type 1} (𝓤 : URA M) (H : Heap 𝓤) (A : Atoms 𝓤) (j : Job �
     abbrev OwnL : Fml
     OwnL = ShrSlice (named 0) κ E.the-row .own list (lv ∷ [])
 
+    abbrev token : Item 𝓤
+    token = ‵ (flft κ q) ⊛ ‵ ftrue
+
     abbrev OwnS : S → Val → Fml
     OwnS r u = j .row .own r (u ∷ [])
 
@@ -182,9 +185,9 @@ module _ {M : Type 1} (𝓤 : URA M) (H : Heap 𝓤) (A : Atoms 𝓤) (j : Job �
     fits-mul : j .index s < length ys → Room E.the-row (length ys) → j .index s * 24 < 2 ^ 64
     fits-mul l room = omega (arith, room .1)
 
-    exits : (r : S) (u : Val) → j .Said ys s r → ent 𝓤 (⋆ 𝓤 H A (‵ (OwnS r u) ∷ (‵ (flft κ q) ⊛ ‵ ftrue) ∷ ‵ OwnL ∷ ‵ (OwnS s (mach s)) ∷ [])) (Whole .post (at s (mach s)) u)
+    exits : (r : S) (u : Val) → j .Said ys s r → ent 𝓤 (⋆ 𝓤 H A (‵ (OwnS r u) ∷ token ∷ ‵ OwnL ∷ ‵ (OwnS s (mach s)) ∷ [])) (Whole .post (at s (mach s)) u)
     exits r u said =
-        qed W (‵ (OwnS r u) ∷ (‵ (flft κ q) ⊛ ‵ ftrue) ∷ ‵ OwnL ∷ ‵ (OwnS s (mach s)) ∷ []) ∵
+        qed W (‵ (OwnS r u) ∷ token ∷ ‵ OwnL ∷ ‵ (OwnS s (mach s)) ∷ []) ∵
         suffices ! _ (ends-at 𝓤 H A ended stayed clauses W (at s (mach s)) u r (tt, (j .last s, tt)) (tt, (tt, tt))) $ says ! said $
         move ! (1 ∷ []) $ frame ! $ nothing ! $ move ! (3 ∷ 0 ∷ []) $ fjoin ! $ move ! (2 ∷ 0 ∷ []) $ fjoin ! $ frame ! $ done !
 
@@ -195,9 +198,9 @@ module _ {M : Type 1} (𝓤 : URA M) (H : Heap 𝓤) (A : Atoms 𝓤) (j : Job �
     goes-step : j .index s < nowhere → ent 𝓤 (⋆ 𝓤 H A (‵ (OwnS s (mach s)) ∷ ‵ (E.the-row .own e (E′.lowered e ∷ [])) ∷ [])) (Step .pre to-step)
     goes-step ok = qed W (‵ (OwnS s (mach s)) ∷ ‵ (E.the-row .own e (E′.lowered e ∷ [])) ∷ []) ∵ says ! ok $ nothing ! $ move ! (2 ∷ 0 ∷ []) $ fjoin ! $ move ! (1 ∷ 0 ∷ []) $ fjoin ! $ nothing ! $ done !
 
-    goes-self : (r : S) (u : Val) → j .Ok r → ent 𝓤 (⋆ 𝓤 H A ((‵ (flft κ q) ⊛ ‵ ftrue) ∷ ‵ OwnL ∷ ‵ (OwnS r u) ∷ [])) (Self .pre (at r u))
+    goes-self : (r : S) (u : Val) → j .Ok r → ent 𝓤 (⋆ 𝓤 H A (token ∷ ‵ OwnL ∷ ‵ (OwnS r u) ∷ [])) (Self .pre (at r u))
     goes-self r u ok =
-        qed W ((‵ (flft κ q) ⊛ ‵ ftrue) ∷ ‵ OwnL ∷ ‵ (OwnS r u) ∷ []) ∵ nothing ! $ move ! (3 ∷ 0 ∷ []) $ fjoin ! $ move ! (2 ∷ 0 ∷ []) $ fjoin ! $ move ! (1 ∷ 0 ∷ []) $ join ! $ frame ! $
+        qed W (token ∷ ‵ OwnL ∷ ‵ (OwnS r u) ∷ []) ∵ nothing ! $ move ! (3 ∷ 0 ∷ []) $ fjoin ! $ move ! (2 ∷ 0 ∷ []) $ fjoin ! $ move ! (1 ∷ 0 ∷ []) $ join ! $ frame ! $
         use0 W (raw (j .asks r)) (j .asked r ok) $ done !
 
     walk : (C : Calls 𝓤 H) (Λ : Loops 𝓤 H) → FmC 𝓤 H (W .laws) C → (#step #self : Name) → Triple 𝓤 (C #step) Step
@@ -206,7 +209,7 @@ module _ {M : Type 1} (𝓤 : URA M) (H : Heap 𝓤) (A : Atoms 𝓤) (j : Job �
     walk C Λ fm #step #self known again room is =
         let wt : Holds (hasTy σ (mach s)) × WT (mach s) = j .typed s (mach s) is in
         let twice = shr-slice-copy 𝓤 H A W (named 0) κ E.the-row .twice list (lv ∷ []) in
-        qed W (((‵ (flft κ q) ⊛ ‵ ftrue) ⊛ ‵ Own) ∷ raw (j .asks s) ∷ []) ∵
+        qed W ((token ⊛ ‵ Own) ∷ raw (j .asks s) ∷ []) ∵
         move ! (1 ∷ []) $ use1 W (raw (fact 𝓤 (j .Ok s))) (j .known s) $ heard ! (j .Ok s) (λ ok.
         -- list is Copy: to be looked into, for the call, and for the exit
         split ! $ move ! (1 ∷ []) $ fsplit ! $ use1 W (‵ OwnL ⊛ ‵ OwnL) twice $ split ! $ use1 W (‵ OwnL ⊛ ‵ OwnL) twice $ split ! $ keep ! (4 ∷ 0 ∷ 1 ∷ 2 ∷ []) $

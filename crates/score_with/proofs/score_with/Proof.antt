@@ -16,7 +16,7 @@ use prog.Wp.{Heap, Calls, Loops, WpFn, Tables}
 use ghost.Atoms.{Atoms}
 use contract.Monad.{Fun}
 use contract.Running.{givenOf, tables, tablesOf}
-use types.Kit.{Given, ‵, raw, _⊛_, ⋆, _$_, _∵_, !, qed, by, move, keep, use1, use2, use3, split, join, fsplit, fjoin, suffices, frame, done}
+use types.Kit.{Given, Item, ‵, raw, _⊛_, ⋆, _$_, _∵_, !, qed, by, move, keep, use1, use2, use3, split, join, fsplit, fjoin, suffices, frame, done}
 use types.Part.{whole, sub, look-in}
 use types.Run.{look, init, stop, fld, from, load, of-opd, and-then, no-more, assigns, returns, enter, alloc1, alloc0, params1, pass1, pass0, free0}
 use sound.WpLaws.{FmC, fmOf, WpFn-mono}
@@ -130,15 +130,18 @@ module _ {M : Type 1} (𝓤 : URA M) (H : Heap 𝓤) (A : Atoms 𝓤) (mem : Mem
     abbrev OwnL : Fml
     OwnL = ShrSlice (named 0) κ E.the-row .own list (lv ∷ [])
 
+    abbrev token : Item 𝓤
+    token = ‵ (flft κ q) ⊛ ‵ ftrue
+
     abbrev OwnN : Fml
     OwnN = usize .own n (nv ∷ [])
 
     abbrev OwnX : Fml
     OwnX = u64 .own x (xv ∷ [])
 
-    exits : (r : Reply) (u : Val) → r ≡ scoredWith ys x → ent 𝓤 (⋆ 𝓤 H A (‵ (R.the-row .own r (u ∷ [])) ∷ (‵ (flft κ q) ⊛ ‵ ftrue) ∷ ‵ OwnL ∷ ‵ OwnX ∷ [])) (Whole .post at u)
+    exits : (r : Reply) (u : Val) → r ≡ scoredWith ys x → ent 𝓤 (⋆ 𝓤 H A (‵ (R.the-row .own r (u ∷ [])) ∷ token ∷ ‵ OwnL ∷ ‵ OwnX ∷ [])) (Whole .post at u)
     exits r u e =
-        qed W (‵ (R.the-row .own r (u ∷ [])) ∷ (‵ (flft κ q) ⊛ ‵ ftrue) ∷ ‵ OwnL ∷ ‵ OwnX ∷ []) ∵
+        qed W (‵ (R.the-row .own r (u ∷ [])) ∷ token ∷ ‵ OwnL ∷ ‵ OwnX ∷ []) ∵
         suffices ! _ (ends-at 𝓤 H A self.ended stayed (self.clauses 𝓤 H A mem run) W at u r (tt, (tt, tt)) (tt, (tt, tt))) $ says ! e $
         -- the token, what is had of the parameters, and the result
         move ! (1 ∷ []) $ frame ! $ nothing ! $ move ! (3 ∷ 0 ∷ []) $ fjoin ! $ move ! (2 ∷ 0 ∷ []) $ fjoin ! $ frame ! $ done !
@@ -153,8 +156,9 @@ module _ {M : Type 1} (𝓤 : URA M) (H : Heap 𝓤) (A : Atoms 𝓤) (mem : Mem
     abbrev to-check : Check → Val → Checks .Ghost
     to-check a u = (((κ, tt), (q, tt), tt, (list, (a, tt)), (lv ∷ [], (u ∷ [], tt))), tt)
 
-    goes-check : (a : Check) (u : Val) → ent 𝓤 (⋆ 𝓤 H A ((‵ (flft κ q) ⊛ ‵ ftrue) ∷ ‵ OwnL ∷ ‵ (N.the-row .own a (u ∷ [])) ∷ [])) (Checks .pre (to-check a u))
-    goes-check a u = qed W ((‵ (flft κ q) ⊛ ‵ ftrue) ∷ ‵ OwnL ∷ ‵ (N.the-row .own a (u ∷ [])) ∷ []) ∵ nothing ! $ move ! (3 ∷ 0 ∷ []) $ fjoin ! $ move ! (2 ∷ 0 ∷ []) $ fjoin ! $ move ! (1 ∷ 0 ∷ []) $ join ! $ frame ! $ done !
+    goes-check : (a : Check) (u : Val) → ent 𝓤 (⋆ 𝓤 H A (token ∷ ‵ OwnL ∷ ‵ (N.the-row .own a (u ∷ [])) ∷ [])) (Checks .pre (to-check a u))
+    goes-check a u =
+        qed W (token ∷ ‵ OwnL ∷ ‵ (N.the-row .own a (u ∷ [])) ∷ []) ∵ nothing ! $ move ! (3 ∷ 0 ∷ []) $ fjoin ! $ move ! (2 ∷ 0 ∷ []) $ fjoin ! $ move ! (1 ∷ 0 ∷ []) $ join ! $ frame ! $ done !
 
     abbrev to-span : Spans .Ghost
     to-span = ((tt, tt, tt, (n, (x, tt)), (nv ∷ [], (xv ∷ [], tt))), tt)
@@ -165,14 +169,18 @@ module _ {M : Type 1} (𝓤 : URA M) (H : Heap 𝓤) (A : Atoms 𝓤) (mem : Mem
     abbrev to-search : Search → Val → Searching .Ghost
     to-search s u = (((κ, tt), (q, tt), tt, (list, (s, tt)), (lv ∷ [], (u ∷ [], tt))), tt)
 
-    goes-search : (s : Search) (u : Val) → Searches s → ent 𝓤 (⋆ 𝓤 H A ((‵ (flft κ q) ⊛ ‵ ftrue) ∷ ‵ OwnL ∷ ‵ (S.the-row .own s (u ∷ [])) ∷ [])) (Searching .pre (to-search s u))
-    goes-search s u ok = qed W ((‵ (flft κ q) ⊛ ‵ ftrue) ∷ ‵ OwnL ∷ ‵ (S.the-row .own s (u ∷ [])) ∷ []) ∵ says ! ok $ nothing ! $ move ! (3 ∷ 0 ∷ []) $ fjoin ! $ move ! (2 ∷ 0 ∷ []) $ fjoin ! $ move ! (1 ∷ 0 ∷ []) $ done !
+    goes-search : (s : Search) (u : Val) → Searches s → ent 𝓤 (⋆ 𝓤 H A (token ∷ ‵ OwnL ∷ ‵ (S.the-row .own s (u ∷ [])) ∷ [])) (Searching .pre (to-search s u))
+    goes-search s u ok =
+        qed W (token ∷ ‵ OwnL ∷ ‵ (S.the-row .own s (u ∷ [])) ∷ []) ∵ says ! ok $ nothing ! $ move ! (3 ∷ 0 ∷ []) $ fjoin ! $ move ! (2 ∷ 0 ∷ []) $ fjoin ! $ move ! (1 ∷ 0 ∷ []) $ done !
 
     abbrev to-finish : Check → Val → Search → Val → Ends .Ghost
     to-finish c v f t = ((tt, tt, tt, (c, (x, (f, tt))), (v ∷ [], (xv ∷ [], (t ∷ [], tt)))), tt)
 
-    goes-finish : (c : Check) (v : Val) (f : Search) (t : Val) → ent 𝓤 (⋆ 𝓤 H A (‵ (N.the-row .own c (v ∷ [])) ∷ ‵ OwnX ∷ ‵ (S.the-row .own f (t ∷ [])) ∷ [])) (Ends .pre (to-finish c v f t))
-    goes-finish c v f t = qed W (‵ (N.the-row .own c (v ∷ [])) ∷ ‵ OwnX ∷ ‵ (S.the-row .own f (t ∷ [])) ∷ []) ∵ nothing ! $ move ! (3 ∷ 0 ∷ []) $ fjoin ! $ move ! (2 ∷ 0 ∷ []) $ fjoin ! $ move ! (1 ∷ 0 ∷ []) $ fjoin ! $ nothing ! $ join ! $ frame ! $ done !
+    goes-finish : (c : Check) (v : Val) (f : Search) (t : Val)
+        → ent 𝓤 (⋆ 𝓤 H A (‵ (N.the-row .own c (v ∷ [])) ∷ ‵ OwnX ∷ ‵ (S.the-row .own f (t ∷ [])) ∷ [])) (Ends .pre (to-finish c v f t))
+    goes-finish c v f t =
+        qed W (‵ (N.the-row .own c (v ∷ [])) ∷ ‵ OwnX ∷ ‵ (S.the-row .own f (t ∷ [])) ∷ []) ∵
+        nothing ! $ move ! (3 ∷ 0 ∷ []) $ fjoin ! $ move ! (2 ∷ 0 ∷ []) $ fjoin ! $ move ! (1 ∷ 0 ∷ []) $ fjoin ! $ nothing ! $ join ! $ frame ! $ done !
 
     -- what the last two say
     abbrev Found : Search → Search → Type 0
@@ -186,7 +194,7 @@ module _ {M : Type 1} (𝓤 : URA M) (H : Heap 𝓤) (A : Atoms 𝓤) (mem : Mem
         → ent 𝓤 (Whole .pre at) (WpFn 𝓤 H C Λ code.function (lv ∷ xv ∷ []) (Whole .post at))
     walk C Λ fm knowS knowC knowP knowF knowE room fits =
         let twice = shr-slice-copy 𝓤 H A W (named 0) κ E.the-row .twice list (lv ∷ []) in
-        qed W (((‵ (flft κ q) ⊛ ‵ ftrue) ⊛ ‵ Own) ∷ ‵ ftrue ∷ []) ∵
+        qed W ((token ⊛ ‵ Own) ∷ ‵ ftrue ∷ []) ∵
         -- list is Copy: for `check_from`, for `search_from`, and for the exit
         split ! $ move ! (1 ∷ []) $ fsplit ! $ use1 W (‵ OwnL ⊛ ‵ OwnL) twice $ split ! $ use1 W (‵ OwnL ⊛ ‵ OwnL) twice $ split ! $ keep ! (4 ∷ 0 ∷ 1 ∷ 2 ∷ []) $
         -- [the token; list; list; list]
@@ -222,17 +230,21 @@ module _ {M : Type 1} (𝓤 : URA M) (H : Heap 𝓤) (A : Atoms 𝓤) (mem : Mem
         lands-in ! R.the-row r y 16 refl (λ is. EL.lawful R.the-type R′.the-laws 𝓤 H A W tt .typed r _ is .0) $
         -- [r; the token; _7; …; _0; …; list]
         returns ! (look ! 16 refl) $
-        gone ! 16 refl refl $ gone ! 14 refl refl $ gone ! 12 refl refl $ gone ! 10 refl refl $ gone ! 8 refl refl $ gone ! 6 refl refl $ gone ! 4 refl refl $ gone ! 2 refl refl $ free0 ! $
+        gone ! 16 refl refl $ gone ! 14 refl refl $ gone ! 12 refl refl $ gone ! 10 refl refl $ gone ! 8 refl refl $
+        gone ! 6 refl refl $ gone ! 4 refl refl $ gone ! 2 refl refl $ free0 ! $
         owned ! u64 (Is u64) (uint-makes 𝓤 H A W w64) x _ (refl, fits) $ keep ! (1 ∷ 2 ∷ 3 ∷ 0 ∷ []) $
-        by ! (exits r y (er ys (ec ∙ ap (checked ys) ea ∙ checking.whole ys) (λ good. ef good (subst (λ (z : Search). z .past ≤ n) (sym es) (searching.upto n (bits x))) ∙ ap (searched ys) es ∙ searching.whole ys (bits x))))))))))))))))))))))
+        by ! (exits r y (er ys (ec ∙ ap (checked ys) ea ∙ checking.whole ys)
+        (λ good. ef good (subst (λ (z : Search). z .past ≤ n) (sym es) (searching.upto n (bits x))) ∙ ap (searched ys) es ∙ searching.whole ys (bits x))))))))))))))))))))))
 
   meets : (W : Given 𝓤 H A) (𝓣 : Tables 𝓤 H)
-      → Triple 𝓤 (𝓣 .C #start) Starts → Triple 𝓤 (𝓣 .C #check) Checks → Triple 𝓤 (𝓣 .C #spans) Spans → Triple 𝓤 (𝓣 .C #search) Searching → Triple 𝓤 (𝓣 .C #finish) Ends
+      → Triple 𝓤 (𝓣 .C #start) Starts → Triple 𝓤 (𝓣 .C #check) Checks → Triple 𝓤 (𝓣 .C #spans) Spans
+      → Triple 𝓤 (𝓣 .C #search) Searching → Triple 𝓤 (𝓣 .C #finish) Ends
       → Meets 𝓤 H A self.signature (WpFn 𝓤 H (𝓣 .C) (𝓣 .Λ) code.function) (self.spec 𝓤 H A mem run)
   meets W 𝓣 knowS knowC knowP knowF knowE =
       walk-meets 𝓤 H A self.ended stayed W (goes-none-slice 𝓤 H A W 1 (0 ∷ []) tt (plain (λ _. E.the-row)) yes, (goes-none 𝓤 H A W 1 (λ _. u64) yes (λ κs x f. refl), tt)) (self.clauses 𝓤 H A mem run)
       (WpFn 𝓤 H (𝓣 .C) (𝓣 .Λ) code.function) (WpFn-mono 𝓤 H (W .laws) 𝓣 code.function)
-      (walked 𝓤 H A self.ended stayed (self.clauses 𝓤 H A mem run) (WpFn 𝓤 H (𝓣 .C) (𝓣 .Λ) code.function) (λ κs. (slice-vals, (uint-vals w64, tt))) (λ κs. (shr-slice-tells (named 0) (κs .0) E.the-row, (uint-tells w64, tt)))
+      (walked 𝓤 H A self.ended stayed (self.clauses 𝓤 H A mem run) (WpFn 𝓤 H (𝓣 .C) (𝓣 .Λ) code.function)
+      (λ κs. (slice-vals, (uint-vals w64, tt))) (λ κs. (shr-slice-tells (named 0) (κs .0) E.the-row, (uint-tells w64, tt)))
       (λ κs qs bounds a g are. walk W (κs .0) (qs .0) (a .0) (a .1 .0) (𝓣 .C) (𝓣 .Λ) (fmOf 𝓤 H (W .laws) 𝓣) knowS knowC knowP knowF knowE (are .0 .0 .1) (are .1 .0 .1)))
 
 pub score-with-spec : {M : Type 1} → stated.statement M
