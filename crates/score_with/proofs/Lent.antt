@@ -1,8 +1,6 @@
--- What `check_from` and `search_from` have in common: the walk of their MIR, by hand. Each is handed a lent list and a state, whose field 0 is the place of an entry. Past the end of the list it gives the state back; else it hands the state and the entry
--- to a step, and the list and what the step gives to itself.
---     function σ #step #self       the MIR of such a function, for states of the type σ
---     Job              such a function's states, what its step gives, what it asks and says, and the laws by which it goes on.        Step, Self       the contracts: the step's, and its own
---     method           its contract at the measures below t gives it at t
+-- What `check_from` and `search_from` have in common: the walk of their MIR, by hand. Each is handed a lent list and a state, whose field 0 is the place of an entry.
+-- Past the end of the list it gives the state back; else it hands the state and the entry to a step, and the list and what the step gives to itself.
+--     function: the MIR.        Job: what is particular to one of the two.        Step, Self: the step's contract, and its own.        method: its contract at the measures below t gives it at t
 -- Assumes nothing.
 use mathlib.Core.Path.{_≡_, refl, sym, subst}
 use Prim.Native.Nat.{ℕ, _*_, _<_, _≤_, _^_}

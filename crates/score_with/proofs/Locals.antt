@@ -1,7 +1,6 @@
--- Steps of a walk by hand about a function's locals, each two or three of `types.Run`'s in one.
---     copied       a local as an operand: entry n of the context is its cell
---     lands-in     the result x of a call, owned at u, is put into a local: entry n of the context is room for it, and what is owned says that u has its type
---     gone         a local that holds something is freed: entry n of the context is its cell, and the next one says that it dies. `free1` is for one that holds nothing
+-- Steps of a walk by hand about a function's locals, each two or three of `types.Run`'s in one. n is a position in the context.
+--     copied, gone     a local is an operand, or is freed: n has its cell. (`free1` frees one that holds nothing)
+--     lands-in         a call's result x, owned at u, is put into a local: n has room for it, and that x is owned at u shows that u has the local's type
 -- Assumes nothing.
 use mathlib.Core.Path.{_≡_, refl, sym, subst}
 use Prim.Native.Nat.{ℕ}
