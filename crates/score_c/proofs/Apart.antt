@@ -2,14 +2,14 @@
 use Prim.Native.Nat.{ℕ, zero, suc}
 use mathlib.Core.Path.{_≡_, refl, subst}
 use mathlib.Core.Bool.{cond}
-use mathlib.Core.List.{List, [], _∷_}
+use mathlib.Core.List.{[], _∷_}
 use native.Mathlib.Omega.{arith}
 use lib.Dec.{eqb, eqb·suc-zero}
+use lib.Ieee.{nan}
 use Rattle.reply.specs.declared.Reply.{Reply}
 use Rattle.reply.specs.declared.Reply.the-variants.{Refused, Bits}
 use Rattle.reply.specs.Told.{number, Apart}
-use Rattle.exceptions.specs.declared.Entry.{Entry}
-use Rattle.exception_list.specs.List.{refusalOf}
+use Rattle.exception_list.specs.List.{isGood, allGood, ascending, refusalOf}
 use Rattle.exp2m1.specs.Score.{scoreWith}
 use Rattle.score_with.specs.Score.{scoredWith}
 use Rattle.score_c.specs.Told.{TellsApart}
@@ -27,3 +27,11 @@ apart (suc n) b e = absurd (nonzero (subst (λ (t : Reply). number t ≡ 0) refu
 pub tells-apart : TellsApart
 unfolding scoredWith
 tells-apart list x = apart (refusalOf list) (scoreWith list x)
+
+pub told : (b : ℕ) × (scoredWith [] 0 ≡ Bits b)
+unfolding scoredWith refusalOf allGood ascending
+told = tells-apart [] 0 refl
+
+pub refused : number (scoredWith (record { x = nan; hi = nan; lo = nan } ∷ []) 0) ≡ 13
+unfolding scoredWith refusalOf allGood ascending isGood
+refused = refl

@@ -1,4 +1,4 @@
--- `score_with::score_with` meets its contract: a walk of its MIR, by hand. The list is lent to `check_from` and to `search_from`; `check_start`, `search_start` and `reply_with` are passed values. There is no branch.
+-- `score_with::score_with` meets its contract: a walk of its MIR, by hand. The list is lent to `check_from` and to `search_from`; `check_start`, `search_for` and `reply_with` are passed values. There is no branch.
 -- Of each callee the walk knows only that it meets its contract. What it knows of numbers and lists are Checked's and Searched's laws.
 -- Assumes nothing.
 use mathlib.Core.Path.{_≡_, refl, sym, ap, subst, _∙_}
@@ -62,10 +62,10 @@ use Rattle.score_with.proofs.check_from as check
 use Rattle.score_with.proofs.check_from.Symbol as check-def
 use Rattle.score_with.proofs.check_from.Symbol.{name as #check}
 use Rattle.score_with.proofs.check_from.Met as check-thm
-use Rattle.exception_list.proofs.search_start as spans
-use Rattle.exception_list.proofs.search_start.Symbol as spans-def
-use Rattle.exception_list.proofs.search_start.Symbol.{name as #spans}
-use Rattle.exception_list.proofs.search_start.Met as spans-thm
+use Rattle.score_with.proofs.search_for as spans
+use Rattle.score_with.proofs.search_for.Symbol as spans-def
+use Rattle.score_with.proofs.search_for.Symbol.{name as #spans}
+use Rattle.score_with.proofs.search_for.Met as spans-thm
 use Rattle.score_with.proofs.search_from as search
 use Rattle.score_with.proofs.search_from.Symbol as search-def
 use Rattle.score_with.proofs.search_from.Symbol.{name as #search}
@@ -213,7 +213,7 @@ module _ {M : Type 1} (𝓤 : URA M) (H : Heap 𝓤) (A : Atoms 𝓤) (mem : Mem
         calls-at ! fm Checks knowC (to-check a u) (and-then ! (copied ! 13 refl) (and-then ! (copied ! 3 refl) (no-more !))) (λ v.
         answers-lent ! tt check.ended (check.clauses 𝓤 H A mem run) (to-check a u) v (λ c. c .refusal ≡ checked ys a) (λ c ws. id⊢ 𝓤 _) (λ c ec.
         lands-in ! N.the-row c v 8 refl (λ is. LL.lawful N.the-type N′.the-laws 𝓤 H A W .typed c _ is .0) $
-        -- [c; the token; _7; …; _0; …; list; list]: search_start(count, x)
+        -- [c; the token; _7; …; _0; …; list; list]: search_for(count, x)
         owned ! u64 (Is u64) (uint-makes 𝓤 H A W w64) x _ (refl, fits) $ owned ! usize (Is usize) (uint-makes 𝓤 H A W w64) n _ (refl, room .0) $ use2 W (raw (Spans .pre to-span)) goes-span $
         calls-at ! fm Spans knowP to-span (and-then ! (copied ! 11 refl) (and-then ! (copied ! 13 refl) (no-more !))) (λ w.
         answers-plain ! tt spans.ended (spans.clauses 𝓤 H A mem run) to-span w (λ s. s ≡ searchIn 0 n (bits x)) (λ s ws. id⊢ 𝓤 _) (λ s es.
@@ -255,6 +255,6 @@ score-with-spec 𝓤 H 𝓜 𝓖 𝓡 =
     (meets 𝓤 H (𝓖 .A) (𝓜 .mem) (𝓡 .run) (givenOf 𝓤 H 𝓜 𝓖) (tablesOf 𝓤 H 𝓜 (tables 𝓤 H 𝓜 𝓡 code.env))
     (cited 𝓤 H _ 𝓜 𝓡 code.env #start start-def.routine code.calls-exception-list·check-start (start-thm.met 𝓤 H 𝓜 𝓖 𝓡))
     (cited 𝓤 H _ 𝓜 𝓡 code.env #check check-def.routine code.calls-score-with·check-from (check-thm.met 𝓤 H 𝓜 𝓖 𝓡))
-    (cited 𝓤 H _ 𝓜 𝓡 code.env #spans spans-def.routine code.calls-exception-list·search-start (spans-thm.met 𝓤 H 𝓜 𝓖 𝓡))
+    (cited 𝓤 H _ 𝓜 𝓡 code.env #spans spans-def.routine code.calls-score-with·search-for (spans-thm.met 𝓤 H 𝓜 𝓖 𝓡))
     (cited 𝓤 H _ 𝓜 𝓡 code.env #search search-def.routine code.calls-score-with·search-from (search-thm.met 𝓤 H 𝓜 𝓖 𝓡))
     (cited 𝓤 H _ 𝓜 𝓡 code.env #finish finish-def.routine code.calls-score-with·reply-with (finish-thm.met 𝓤 H 𝓜 𝓖 𝓡)))
