@@ -62,18 +62,18 @@ use Rattle.score_with.proofs.check_from as check
 use Rattle.score_with.proofs.check_from.Symbol as check-def
 use Rattle.score_with.proofs.check_from.Symbol.{name as #check}
 use Rattle.score_with.proofs.check_from.Met as check-thm
-use Rattle.score_with.proofs.search_for as spans
-use Rattle.score_with.proofs.search_for.Symbol as spans-def
-use Rattle.score_with.proofs.search_for.Symbol.{name as #spans}
-use Rattle.score_with.proofs.search_for.Met as spans-thm
+use Rattle.score_with.proofs.search_for as seek
+use Rattle.score_with.proofs.search_for.Symbol as seek-def
+use Rattle.score_with.proofs.search_for.Symbol.{name as #seek}
+use Rattle.score_with.proofs.search_for.Met as seek-thm
 use Rattle.score_with.proofs.search_from as search
 use Rattle.score_with.proofs.search_from.Symbol as search-def
 use Rattle.score_with.proofs.search_from.Symbol.{name as #search}
 use Rattle.score_with.proofs.search_from.Met as search-thm
-use Rattle.score_with.proofs.reply_with as finish
-use Rattle.score_with.proofs.reply_with.Symbol as finish-def
-use Rattle.score_with.proofs.reply_with.Symbol.{name as #finish}
-use Rattle.score_with.proofs.reply_with.Met as finish-thm
+use Rattle.score_with.proofs.reply_with as reply
+use Rattle.score_with.proofs.reply_with.Symbol as reply-def
+use Rattle.score_with.proofs.reply_with.Symbol.{name as #reply}
+use Rattle.score_with.proofs.reply_with.Met as reply-thm
 use Rattle.score_with.proofs.Answers.{answers-lent, answers-plain}
 use Rattle.score_with.proofs.Locals.{copied, lands-in, gone}
 use Rattle.score_with.proofs.score_with.Key.{name as #self}
@@ -95,14 +95,14 @@ module _ {M : Type 1} (𝓤 : URA M) (H : Heap 𝓤) (A : Atoms 𝓤) (mem : Mem
   abbrev Checks : Contract 𝓤
   Checks = tripleOf 𝓤 H A check.signature (check.spec 𝓤 H A mem run)
 
-  abbrev Spans : Contract 𝓤
-  Spans = tripleOf 𝓤 H A spans.signature (spans.spec 𝓤 H A mem run)
+  abbrev Seeks : Contract 𝓤
+  Seeks = tripleOf 𝓤 H A seek.signature (seek.spec 𝓤 H A mem run)
 
   abbrev Searching : Contract 𝓤
   Searching = tripleOf 𝓤 H A search.signature (search.spec 𝓤 H A mem run)
 
-  abbrev Ends : Contract 𝓤
-  Ends = tripleOf 𝓤 H A finish.signature (finish.spec 𝓤 H A mem run)
+  abbrev Replies : Contract 𝓤
+  Replies = tripleOf 𝓤 H A reply.signature (reply.spec 𝓤 H A mem run)
 
   module _ (W : Given 𝓤 H A) (κ : Lft) (q : Share) (list : RefT (List Entry)) (x : ℕ) where
     abbrev ys : List Entry
@@ -160,11 +160,11 @@ module _ {M : Type 1} (𝓤 : URA M) (H : Heap 𝓤) (A : Atoms 𝓤) (mem : Mem
     goes-check a u =
         qed W (token ∷ ‵ OwnL ∷ ‵ (N.the-row .own a (u ∷ [])) ∷ []) ∵ nothing ! $ move ! (3 ∷ 0 ∷ []) $ fjoin ! $ move ! (2 ∷ 0 ∷ []) $ fjoin ! $ move ! (1 ∷ 0 ∷ []) $ join ! $ frame ! $ done !
 
-    abbrev to-span : Spans .Ghost
-    to-span = ((tt, tt, tt, (n, (x, tt)), (nv ∷ [], (xv ∷ [], tt))), tt)
+    abbrev to-seek : Seeks .Ghost
+    to-seek = ((tt, tt, tt, (n, (x, tt)), (nv ∷ [], (xv ∷ [], tt))), tt)
 
-    goes-span : ent 𝓤 (⋆ 𝓤 H A (‵ OwnN ∷ ‵ OwnX ∷ [])) (Spans .pre to-span)
-    goes-span = qed W (‵ OwnN ∷ ‵ OwnX ∷ []) ∵ nothing ! $ move ! (2 ∷ 0 ∷ []) $ fjoin ! $ move ! (1 ∷ 0 ∷ []) $ fjoin ! $ nothing ! $ join ! $ frame ! $ done !
+    goes-seek : ent 𝓤 (⋆ 𝓤 H A (‵ OwnN ∷ ‵ OwnX ∷ [])) (Seeks .pre to-seek)
+    goes-seek = qed W (‵ OwnN ∷ ‵ OwnX ∷ []) ∵ nothing ! $ move ! (2 ∷ 0 ∷ []) $ fjoin ! $ move ! (1 ∷ 0 ∷ []) $ fjoin ! $ nothing ! $ join ! $ frame ! $ done !
 
     abbrev to-search : Search → Val → Searching .Ghost
     to-search s u = (((κ, tt), (q, tt), tt, (list, (s, tt)), (lv ∷ [], (u ∷ [], tt))), tt)
@@ -173,12 +173,12 @@ module _ {M : Type 1} (𝓤 : URA M) (H : Heap 𝓤) (A : Atoms 𝓤) (mem : Mem
     goes-search s u ok =
         qed W (token ∷ ‵ OwnL ∷ ‵ (S.the-row .own s (u ∷ [])) ∷ []) ∵ says ! ok $ nothing ! $ move ! (3 ∷ 0 ∷ []) $ fjoin ! $ move ! (2 ∷ 0 ∷ []) $ fjoin ! $ move ! (1 ∷ 0 ∷ []) $ done !
 
-    abbrev to-finish : Check → Val → Search → Val → Ends .Ghost
-    to-finish c v f t = ((tt, tt, tt, (c, (x, (f, tt))), (v ∷ [], (xv ∷ [], (t ∷ [], tt)))), tt)
+    abbrev to-reply : Check → Val → Search → Val → Replies .Ghost
+    to-reply c v f t = ((tt, tt, tt, (c, (x, (f, tt))), (v ∷ [], (xv ∷ [], (t ∷ [], tt)))), tt)
 
-    goes-finish : (c : Check) (v : Val) (f : Search) (t : Val)
-        → ent 𝓤 (⋆ 𝓤 H A (‵ (N.the-row .own c (v ∷ [])) ∷ ‵ OwnX ∷ ‵ (S.the-row .own f (t ∷ [])) ∷ [])) (Ends .pre (to-finish c v f t))
-    goes-finish c v f t =
+    goes-reply : (c : Check) (v : Val) (f : Search) (t : Val)
+        → ent 𝓤 (⋆ 𝓤 H A (‵ (N.the-row .own c (v ∷ [])) ∷ ‵ OwnX ∷ ‵ (S.the-row .own f (t ∷ [])) ∷ [])) (Replies .pre (to-reply c v f t))
+    goes-reply c v f t =
         qed W (‵ (N.the-row .own c (v ∷ [])) ∷ ‵ OwnX ∷ ‵ (S.the-row .own f (t ∷ [])) ∷ []) ∵
         nothing ! $ move ! (3 ∷ 0 ∷ []) $ fjoin ! $ move ! (2 ∷ 0 ∷ []) $ fjoin ! $ move ! (1 ∷ 0 ∷ []) $ fjoin ! $ nothing ! $ join ! $ frame ! $ done !
 
@@ -189,8 +189,8 @@ module _ {M : Type 1} (𝓤 : URA M) (H : Heap 𝓤) (A : Atoms 𝓤) (mem : Mem
     abbrev Replied : Check → Search → Reply → Type 0
     Replied c f r = (l : List Entry) → c .refusal ≡ refusalOf l → (refusalOf l ≡ 0 → f .found ≡ find l (bits x)) → r ≡ scoredWith l x
 
-    walk : (C : Calls 𝓤 H) (Λ : Loops 𝓤 H) → FmC 𝓤 H (W .laws) C → Triple 𝓤 (C #start) Starts → Triple 𝓤 (C #check) Checks → Triple 𝓤 (C #spans) Spans
-        → Triple 𝓤 (C #search) Searching → Triple 𝓤 (C #finish) Ends → Room E.the-row n → x < 2 ^ 64
+    walk : (C : Calls 𝓤 H) (Λ : Loops 𝓤 H) → FmC 𝓤 H (W .laws) C → Triple 𝓤 (C #start) Starts → Triple 𝓤 (C #check) Checks → Triple 𝓤 (C #seek) Seeks
+        → Triple 𝓤 (C #search) Searching → Triple 𝓤 (C #reply) Replies → Room E.the-row n → x < 2 ^ 64
         → ent 𝓤 (Whole .pre at) (WpFn 𝓤 H C Λ code.function (lv ∷ xv ∷ []) (Whole .post at))
     walk C Λ fm knowS knowC knowP knowF knowE room fits =
         let twice = shr-slice-copy 𝓤 H A W (named 0) κ E.the-row .twice list (lv ∷ []) in
@@ -214,9 +214,9 @@ module _ {M : Type 1} (𝓤 : URA M) (H : Heap 𝓤) (A : Atoms 𝓤) (mem : Mem
         answers-lent ! tt check.ended (check.clauses 𝓤 H A mem run) (to-check a u) v (λ c. c .refusal ≡ checked ys a) (λ c ws. id⊢ 𝓤 _) (λ c ec.
         lands-in ! N.the-row c v 8 refl (λ is. LL.lawful N.the-type N′.the-laws 𝓤 H A W .typed c _ is .0) $
         -- [c; the token; _7; …; _0; …; list; list]: search_for(count, x)
-        owned ! u64 (Is u64) (uint-makes 𝓤 H A W w64) x _ (refl, fits) $ owned ! usize (Is usize) (uint-makes 𝓤 H A W w64) n _ (refl, room .0) $ use2 W (raw (Spans .pre to-span)) goes-span $
-        calls-at ! fm Spans knowP to-span (and-then ! (copied ! 11 refl) (and-then ! (copied ! 13 refl) (no-more !))) (λ w.
-        answers-plain ! tt spans.ended (spans.clauses 𝓤 H A mem run) to-span w (λ s. s ≡ searchIn 0 n (bits x)) (λ s ws. id⊢ 𝓤 _) (λ s es.
+        owned ! u64 (Is u64) (uint-makes 𝓤 H A W w64) x _ (refl, fits) $ owned ! usize (Is usize) (uint-makes 𝓤 H A W w64) n _ (refl, room .0) $ use2 W (raw (Seeks .pre to-seek)) goes-seek $
+        calls-at ! fm Seeks knowP to-seek (and-then ! (copied ! 11 refl) (and-then ! (copied ! 13 refl) (no-more !))) (λ w.
+        answers-plain ! tt seek.ended (seek.clauses 𝓤 H A mem run) to-seek w (λ s. s ≡ searchIn 0 n (bits x)) (λ s ws. id⊢ 𝓤 _) (λ s es.
         lands-in ! S.the-row s w 3 refl (λ is. LL.lawful S.the-type S′.the-laws 𝓤 H A W .typed s _ is .0) $
         -- [s; c; the token; _7; …; _0; …; list; list]: search_from(list, s)
         move ! (2 ∷ 19 ∷ 0 ∷ []) $ use3 W (raw (Searching .pre (to-search s w))) (goes-search s w (subst Searches (sym es) (searching.starts n (bits x)))) $
@@ -224,9 +224,9 @@ module _ {M : Type 1} (𝓤 : URA M) (H : Heap 𝓤) (A : Atoms 𝓤) (mem : Mem
         answers-lent ! tt search.ended (search.clauses 𝓤 H A mem run) (to-search s w) t (λ f. Found s f) (λ f ws. id⊢ 𝓤 _) (λ f ef.
         lands-in ! S.the-row f t 7 refl (λ is. LL.lawful S.the-type S′.the-laws 𝓤 H A W .typed f _ is .0) $
         -- [f; the token; c; _7; …; _0; …; list]: reply_with(c, x, f)
-        owned ! u64 (Is u64) (uint-makes 𝓤 H A W w64) x _ (refl, fits) $ move ! (3 ∷ 0 ∷ 1 ∷ []) $ use3 W (raw (Ends .pre (to-finish c v f t))) (goes-finish c v f t) $
-        calls-at ! fm Ends knowE (to-finish c v f t) (and-then ! (copied ! 8 refl) (and-then ! (copied ! 12 refl) (and-then ! (copied ! 6 refl) (no-more !)))) (λ y.
-        answers-plain ! tt finish.ended (finish.clauses 𝓤 H A mem run) (to-finish c v f t) y (λ r. Replied c f r) (λ r ws. id⊢ 𝓤 _) (λ r er.
+        owned ! u64 (Is u64) (uint-makes 𝓤 H A W w64) x _ (refl, fits) $ move ! (3 ∷ 0 ∷ 1 ∷ []) $ use3 W (raw (Replies .pre (to-reply c v f t))) (goes-reply c v f t) $
+        calls-at ! fm Replies knowE (to-reply c v f t) (and-then ! (copied ! 8 refl) (and-then ! (copied ! 12 refl) (and-then ! (copied ! 6 refl) (no-more !)))) (λ y.
+        answers-plain ! tt reply.ended (reply.clauses 𝓤 H A mem run) (to-reply c v f t) y (λ r. Replied c f r) (λ r ws. id⊢ 𝓤 _) (λ r er.
         lands-in ! R.the-row r y 16 refl (λ is. EL.lawful R.the-type R′.the-laws 𝓤 H A W tt .typed r _ is .0) $
         -- [r; the token; _7; …; _0; …; list]
         returns ! (look ! 16 refl) $
@@ -237,8 +237,8 @@ module _ {M : Type 1} (𝓤 : URA M) (H : Heap 𝓤) (A : Atoms 𝓤) (mem : Mem
         (λ good. ef good (subst (λ (z : Search). z .past ≤ n) (sym es) (searching.upto n (bits x))) ∙ ap (searched ys) es ∙ searching.whole ys (bits x))))))))))))))))))))))
 
   meets : (W : Given 𝓤 H A) (𝓣 : Tables 𝓤 H)
-      → Triple 𝓤 (𝓣 .C #start) Starts → Triple 𝓤 (𝓣 .C #check) Checks → Triple 𝓤 (𝓣 .C #spans) Spans
-      → Triple 𝓤 (𝓣 .C #search) Searching → Triple 𝓤 (𝓣 .C #finish) Ends
+      → Triple 𝓤 (𝓣 .C #start) Starts → Triple 𝓤 (𝓣 .C #check) Checks → Triple 𝓤 (𝓣 .C #seek) Seeks
+      → Triple 𝓤 (𝓣 .C #search) Searching → Triple 𝓤 (𝓣 .C #reply) Replies
       → Meets 𝓤 H A self.signature (WpFn 𝓤 H (𝓣 .C) (𝓣 .Λ) code.function) (self.spec 𝓤 H A mem run)
   meets W 𝓣 knowS knowC knowP knowF knowE =
       walk-meets 𝓤 H A self.ended stayed W (goes-none-slice 𝓤 H A W 1 (0 ∷ []) tt (plain (λ _. E.the-row)) yes, (goes-none 𝓤 H A W 1 (λ _. u64) yes (λ κs x f. refl), tt)) (self.clauses 𝓤 H A mem run)
@@ -255,6 +255,6 @@ score-with-spec 𝓤 H 𝓜 𝓖 𝓡 =
     (meets 𝓤 H (𝓖 .A) (𝓜 .mem) (𝓡 .run) (givenOf 𝓤 H 𝓜 𝓖) (tablesOf 𝓤 H 𝓜 (tables 𝓤 H 𝓜 𝓡 code.env))
     (cited 𝓤 H _ 𝓜 𝓡 code.env #start start-def.routine code.calls-exception-list·check-start (start-thm.met 𝓤 H 𝓜 𝓖 𝓡))
     (cited 𝓤 H _ 𝓜 𝓡 code.env #check check-def.routine code.calls-score-with·check-from (check-thm.met 𝓤 H 𝓜 𝓖 𝓡))
-    (cited 𝓤 H _ 𝓜 𝓡 code.env #spans spans-def.routine code.calls-score-with·search-for (spans-thm.met 𝓤 H 𝓜 𝓖 𝓡))
+    (cited 𝓤 H _ 𝓜 𝓡 code.env #seek seek-def.routine code.calls-score-with·search-for (seek-thm.met 𝓤 H 𝓜 𝓖 𝓡))
     (cited 𝓤 H _ 𝓜 𝓡 code.env #search search-def.routine code.calls-score-with·search-from (search-thm.met 𝓤 H 𝓜 𝓖 𝓡))
-    (cited 𝓤 H _ 𝓜 𝓡 code.env #finish finish-def.routine code.calls-score-with·reply-with (finish-thm.met 𝓤 H 𝓜 𝓖 𝓡)))
+    (cited 𝓤 H _ 𝓜 𝓡 code.env #reply reply-def.routine code.calls-score-with·reply-with (reply-thm.met 𝓤 H 𝓜 𝓖 𝓡)))
