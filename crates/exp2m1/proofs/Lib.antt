@@ -2,4 +2,4 @@
 pub mod Patterns
 pub mod Floor
 pub mod Steps
-mod Small
+pub mod Small

@@ -1,6 +1,7 @@
--- Steps of the walks over a lent slice; the built-in table, lent; and replies computed.
+-- Steps of the walks over a lent slice; where the list decides, and the built-in table, lent; and replies computed.
 pub mod Answers
 pub mod Locals
 mod Lent
 pub mod BuiltIn
+pub mod Listed
 mod Examples

@@ -1,0 +1,34 @@
+-- Step 5 is the one that looks at the list, and finds in it what there is; and that at a list, in step 5 and outside of it. Assumes nothing.
+use mathlib.Core.Path.{_≡_, refl, ap}
+use mathlib.Core.List.{List, [], _∷_}
+use Prim.Native.Nat.{ℕ, _<_, _^_}
+use lib.Dec.{lit<}
+use lib.Ieee.{binary64, toBits}
+use Rattle.pair.specs.Pair.{bits}
+use Rattle.exceptions.specs.declared.Entry.{Entry}
+use Rattle.exceptions.specs.declared.Stretch.the-variants.{First}
+use Rattle.exceptions.specs.Lookup.{find, entries, Finds}
+use Rattle.exceptions.proofs.Scan.{finds}
+use Rattle.exp2m1.specs.Range.{isSmall}
+use Rattle.exp2m1.specs.Score.{scoreWith, scoreBits}
+use Rattle.exp2m1.proofs.Small.{small, elsewhere}
+use Rattle.score_with.specs.Score.{Listed, EveryListed}
+
+pub listed : EveryListed
+unfolding scoreWith scoreBits
+listed list x l = record {
+  in-step-5 = λ s. (finds list (bits x), ap (toBits binary64) (small list x (bits x) l s));
+  elsewhere = λ s. ap (toBits binary64) (elsewhere list x (bits x) (entries First) s);
+}
+
+abbrev one : List Entry
+one = record { x = bits 0x3ab0000000000000; hi = bits 0x3ff0000000000000; lo = bits 0 } ∷ []
+
+-- 2 ^ -84, of step 5, and 1
+pub met : Finds one (bits 0x3ab0000000000000) (find one (bits 0x3ab0000000000000))
+unfolding isSmall
+met = listed one 0x3ab0000000000000 (lit< tt) .in-step-5 refl .0
+
+pub unmet : scoreWith one 0x3ff0000000000000 ≡ scoreBits 0x3ff0000000000000
+unfolding isSmall
+unmet = listed one 0x3ff0000000000000 (lit< tt) .elsewhere refl
