@@ -22,11 +22,11 @@ ghost use Rattle.score_with.specs.Score.{scoredWith};
 fn check_from(list: &[Entry], c: Check) -> Check
     ensures { λ r. ⌜ r .refusal ≡ checked (now (list .entry)) c ⌝ }
 {
-    let at = c.at;
-    if list.len() <= at {
-        return c;
+    let mut s = c;
+    while s.at < list.len() {
+        s = exception_list::check_next(s, list[s.at]);
     }
-    check_from(list, exception_list::check_next(c, list[at]))
+    s
 }
 
 // The end of a search that has come to s; what it has found is told of a good list alone.
