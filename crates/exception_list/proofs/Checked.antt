@@ -13,13 +13,13 @@ use lib.Ieee.Scale.{finite}
 use Rattle.exceptions.specs.declared.Entry.{Entry}
 use Rattle.exceptions.specs.Lookup.{nth}
 use Rattle.exception_list.specs.declared.Check.{Check}
-use Rattle.exception_list.specs.List.{isGood, allGood, ascending, refusalOf}
+use Rattle.exception_list.specs.List.{isGood, allGood, ascending, badEntry, refusalOf}
 use Rattle.exception_list.specs.Steps.{checkStart, mayFollow, refusalAfter, checkNext, allFollow, checked}
 
 -- ---- a check's end, and one entry more
 -- the refusal that an entry brings about, or 0
 abbrev told : Bool → ℕ
-told f = cond f 0 13
+told f = cond f 0 badEntry
 
 ended : (list : List Entry) (at : ℕ) (p : Float) (n : ℕ) → length list ≤ at → n ≡ cond (eqb n 0) (told (allFollow p (drop at list))) n
 unfolding allFollow

@@ -14,7 +14,7 @@ use Rattle.exceptions.specs.declared.Entry.{Entry}
 use Rattle.exceptions.specs.Lookup.{nth}
 use Rattle.exceptions.proofs.Order.{lt-trans}
 use Rattle.exceptions.proofs.Halving.{Rising}
-use Rattle.exception_list.specs.List.{isGood, allGood, ascending, refusalOf}
+use Rattle.exception_list.specs.List.{isGood, allGood, ascending, tooLong, badEntry, refusalOf}
 
 good-finite : (e : Entry) → T (isGood e) → T (finite (e .x))
 unfolding isGood
@@ -48,7 +48,7 @@ ascends (e ∷ es) g a zero (suc j) p q = above e es (good-finite e (and-l (isGo
 ascends (e ∷ es) g a (suc i) (suc j) p q = ascends es (and-r (isGood e) _ g) (tail e es a) i j (le-of-suc-le-suc p) (le-of-suc-le-suc q)
 
 -- 0 is told of a good list alone
-good : (b c : Bool) → _≡_ {A = ℕ} (cond b 12 (cond c 0 13)) 0 → T c
+good : (b c : Bool) → cond b tooLong (cond c 0 badEntry) ≡ 0 → T c
 good true c h = let z : ⊥ = omega arith in absurd z
 good false true h = tt
 good false false h = let z : ⊥ = omega arith in absurd z

@@ -23,6 +23,16 @@ ascending [] = true
 ascending (e ∷ []) = true
 ascending (e ∷ f ∷ es) = lt (e .x) (f .x) && ascending (f ∷ es)
 
+-- the entries of the longest list that is good
+abbrev pub longest : ℕ
+longest = 256
+
+abbrev pub tooLong : ℕ
+tooLong = 12
+
+abbrev pub badEntry : ℕ
+badEntry = 13
+
 -- "12, more than 256 entries; 13, an entry not finite, an x that is zero, or out of order; 12 first"; 0 for a good list
 unfoldable pub refusalOf : List Entry → ℕ
-refusalOf list = cond (ltb 256 (length list)) 12 (cond (allGood list && ascending list) 0 13)
+refusalOf list = cond (ltb longest (length list)) tooLong (cond (allGood list && ascending list) 0 badEntry)

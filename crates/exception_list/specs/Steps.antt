@@ -12,11 +12,11 @@ use Rattle.exceptions.specs.declared.Found.the-variants.{Reply, Nothing}
 use Rattle.exceptions.specs.Lookup.{replyOf, find, nth, entriesFrom}
 use Rattle.exception_list.specs.declared.Check.{Check}
 use Rattle.exception_list.specs.declared.Search.{Search}
-use Rattle.exception_list.specs.List.{isGood}
+use Rattle.exception_list.specs.List.{isGood, longest, tooLong, badEntry}
 
 -- ---- the check
 unfoldable pub checkStart : ℕ → Check
-checkStart n = record { at = cond (ltb 256 n) n 0; last = inf true; refusal = cond (ltb 256 n) 12 0 }
+checkStart n = record { at = cond (ltb longest n) n 0; last = inf true; refusal = cond (ltb longest n) tooLong 0 }
 
 -- the entry may follow one whose x is p
 unfoldable pub mayFollow : Float → Entry → Bool
@@ -24,7 +24,7 @@ mayFollow p e = lt p (e .x) && isGood e
 
 -- a refusal stands; else the next entry decides
 unfoldable pub refusalAfter : Check → Entry → ℕ
-refusalAfter c e = cond (eqb (c .refusal) 0) (cond (mayFollow (c .last) e) 0 13) (c .refusal)
+refusalAfter c e = cond (eqb (c .refusal) 0) (cond (mayFollow (c .last) e) 0 badEntry) (c .refusal)
 
 unfoldable pub checkNext : Check → Entry → Check
 checkNext c e = record { at = c .at + 1; last = e .x; refusal = refusalAfter c e }
@@ -36,7 +36,7 @@ allFollow p (e ∷ es) = mayFollow p e && allFollow (e .x) es
 
 -- the refusal that a check that has come to c ends in, or 0
 unfoldable pub checked : List Entry → Check → ℕ
-checked list c = cond (eqb (c .refusal) 0) (cond (allFollow (c .last) (drop (c .at) list)) 0 13) (c .refusal)
+checked list c = cond (eqb (c .refusal) 0) (cond (allFollow (c .last) (drop (c .at) list)) 0 badEntry) (c .refusal)
 
 -- ---- the search
 -- a place that no list has

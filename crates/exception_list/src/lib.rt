@@ -15,11 +15,11 @@ ghost use Rattle.exception_list.specs.List.{isGood};
 ghost use Rattle.exception_list.specs.Steps.{mayFollow, refusalAfter, checkStart, checkNext, searchIn, searchNext};
 
 // The refusals of a list, and the number of entries up to which it is not too long.
-pub const TOO_LONG: u8 = 12;
+const TOO_LONG: u8 = 12;
 
-pub const BAD_ENTRY: u8 = 13;
+const BAD_ENTRY: u8 = 13;
 
-pub const LONGEST: usize = 256;
+const LONGEST: usize = 256;
 
 // A place that no list has.
 const NOWHERE: usize = 18446744073709551615;
