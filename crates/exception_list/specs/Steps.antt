@@ -1,4 +1,4 @@
--- What one step of a check or of a search does, and what the rest of it comes to. Only private contracts cite these. Definitions only.
+-- What one step of a check or of a search does, and what the rest of it comes to. Contracts below the call alone cite these. Definitions only.
 use mathlib.Core.Path.{_≡_}
 use mathlib.Core.Bool.{Bool, true, _&&_, cond}
 use mathlib.Core.List.{List, [], _∷_}
