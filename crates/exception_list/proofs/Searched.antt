@@ -107,9 +107,12 @@ unfolding entriesFrom
 all [] = refl
 all (e ∷ es) = ap (λ (l : List Entry). e ∷ l) (shifted e es 0 (length es) ∙ all es)
 
+pub from-first : (list : List Entry) (x : Float) → find (entriesFrom (nth list) 0 (length list - 0)) x ≡ find list x
+from-first list x = ap (λ (n : ℕ). find (entriesFrom (nth list) 0 n) x) (sub-zero (length list)) ∙ ap (λ (l : List Entry). find l x) (all list)
+
 pub whole : (list : List Entry) (x : Float) → searched list (searchIn 0 (length list) x) ≡ find list x
 unfolding searched searchIn
-whole list x = ap (λ (n : ℕ). find (entriesFrom (nth list) 0 n) x) (sub-zero (length list)) ∙ ap (λ (l : List Entry). find l x) (all list)
+whole list x = from-first list x
 
 pub upto : (n : ℕ) (x : Float) → searchIn 0 n x .past ≤ n
 unfolding searchIn

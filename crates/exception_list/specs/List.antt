@@ -1,4 +1,5 @@
--- Request A.4: which list of entries x, hi, lo is good, and what another is refused by. Definitions only.
+-- Request A.4: which list of entries x, hi, lo is good, what another is refused by, and what is found in a good one. Definitions only.
+use mathlib.Core.Path.{_≡_}
 use mathlib.Core.Bool.{Bool, true, not, _&&_, cond}
 use mathlib.Core.List.{List, [], _∷_}
 use Prim.Native.Nat.{ℕ}
@@ -8,6 +9,8 @@ use lib.Ieee.{Float, eq, lt}
 use lib.Ieee.Scale.{finite}
 use Rattle.pair.specs.Pair.{bits}
 use Rattle.exceptions.specs.declared.Entry.{Entry}
+use Rattle.exceptions.specs.declared.Found.{Found}
+use Rattle.exceptions.specs.Lookup.{find, Finds}
 
 -- "Entries must be finite", "with no x equal to zero"
 unfoldable pub isGood : Entry → Bool
@@ -36,3 +39,7 @@ badEntry = 13
 -- "12, more than 256 entries; 13, an entry not finite, an x that is zero, or out of order; 12 first"; 0 for a good list
 unfoldable pub refusalOf : List Entry → ℕ
 refusalOf list = cond (ltb longest (length list)) tooLong (cond (allGood list && ascending list) 0 badEntry)
+
+-- in a good list no more than one entry equals x: `Finds` holds of what is found, and of nothing else
+abbrev pub Settles : Type 0
+Settles = (list : List Entry) → refusalOf list ≡ 0 → (x : Float) (f : Found) → Finds list x f → f ≡ find list x

@@ -1,5 +1,5 @@
 -- Replies to lent lists, computed, as one statement over a list of cases. Assumes nothing.
-use Prim.Native.Nat.{ℕ}
+use Prim.Native.Nat.{ℕ, _+_}
 use mathlib.Core.Bool.{Bool, true, false, _&&_}
 use mathlib.Core.List.{List, [], _∷_}
 use lib.Dec.{T, eqb}
@@ -10,7 +10,7 @@ use Rattle.ieee754.specs.Operations.{fusedMultiplyAdd, roundToIntegral, scaleB}
 use Rattle.pair.specs.Pair.{bits}
 use Rattle.double_double.specs.Pairs.{fastTwoSum, fastSum, aMul, sMul, dMul}
 use Rattle.exceptions.specs.declared.Entry.{Entry}
-use Rattle.exceptions.specs.Lookup.{find}
+use Rattle.exceptions.specs.Lookup.{find, entriesFrom}
 use Rattle.exception_list.specs.List.{isGood, allGood, ascending, refusalOf}
 use Rattle.exp2m1.specs.Phases.{exp2m1Scaled, exp2m1TwoTerms, exp2m1Whole}
 use Rattle.exp2m1.specs.Score.{isWhole, rounded, steps, scoreWith}
@@ -40,6 +40,10 @@ good = entry 0x3ab0000000000000 0x4000000000000000 0x3ff0000000000000 ∷ entry 
 abbrev bad : List Entry
 bad = entry 0x3ff0000000000000 0 0 ∷ entry 0x3ff0000000000000 0 0 ∷ []
 
+-- 257 entries from 1 on
+abbrev long : List Entry
+long = entriesFrom (λ i. entry (0x3ff0000000000000 + i) 0 0) 0 257
+
 unfoldable pub cases : List Case
 cases =
     -- found: hi + lo, and an infinite one
@@ -62,8 +66,9 @@ cases =
     gives bad 0x7ff0000000000001 (Refused 13) ∷
     gives bad 0xfff0000000000000 (Refused 13) ∷
     gives bad 0 (Refused 13) ∷
+    gives long 0x3ab0000000000000 (Refused 12) ∷
     []
 
 pub replies : T (allRight cases)
-unfolding cases allRight scoredWith refusalOf allGood ascending isGood scoreWith steps isWhole rounded find exp2m1Scaled exp2m1TwoTerms exp2m1Whole fastTwoSum fastSum aMul sMul dMul fusedMultiplyAdd roundToIntegral scaleB add sub mul neg eq le lt ofBits toBits ofInt toSigned toUnsigned
+unfolding cases allRight scoredWith refusalOf allGood ascending isGood scoreWith steps isWhole rounded find entriesFrom exp2m1Scaled exp2m1TwoTerms exp2m1Whole fastTwoSum fastSum aMul sMul dMul fusedMultiplyAdd roundToIntegral scaleB add sub mul neg eq le lt ofBits toBits ofInt toSigned toUnsigned
 replies = tt

@@ -21,14 +21,15 @@ listed list x l = record {
   elsewhere = λ s. ap (toBits binary64) (elsewhere list x (bits x) (entries First) s);
 }
 
+-- -2 ^ -84 to 1
 abbrev one : List Entry
-one = record { x = bits 0x3ab0000000000000; hi = bits 0x3ff0000000000000; lo = bits 0 } ∷ []
+one = record { x = bits 0xbab0000000000000; hi = bits 0x3ff0000000000000; lo = bits 0 } ∷ []
 
--- 2 ^ -84, of step 5, and 1
-pub met : Finds one (bits 0x3ab0000000000000) (find one (bits 0x3ab0000000000000))
+-- its weight, of step 5, and the largest pattern
+pub met : Finds one (bits 0xbab0000000000000) (find one (bits 0xbab0000000000000))
 unfolding isSmall
-met = listed one 0x3ab0000000000000 (lit< tt) .in-step-5 refl .0
+met = listed one 0xbab0000000000000 (lit< tt) .in-step-5 refl .0
 
-pub unmet : scoreWith one 0x3ff0000000000000 ≡ scoreBits 0x3ff0000000000000
+pub unmet : scoreWith one 0xffffffffffffffff ≡ scoreBits 0xffffffffffffffff
 unfolding isSmall
-unmet = listed one 0x3ff0000000000000 (lit< tt) .elsewhere refl
+unmet = listed one 0xffffffffffffffff (lit< tt) .elsewhere refl
