@@ -46,7 +46,7 @@ steps list ux x =
     (rounded (exp2m1Fast x (leb ax 0x3fc0000000000000)) (exp2m1Accurate x)))))))
 
 -- the bits of the score
-unfoldable pub scoreWith : List Entry → ℕ → ℕ
+abbrev pub scoreWith : List Entry → ℕ → ℕ
 scoreWith list ux = toBits binary64 (steps list ux (bits ux))
 
 -- the first exception table in step 5

@@ -13,7 +13,7 @@ use Rattle.exceptions.specs.declared.Entry.{Entry}
 use Rattle.exceptions.specs.Lookup.{find, entriesFrom}
 use Rattle.exception_list.specs.List.{isGood, allGood, ascending, refusalOf}
 use Rattle.exp2m1.specs.Phases.{exp2m1Scaled, exp2m1TwoTerms, exp2m1Whole}
-use Rattle.exp2m1.specs.Score.{isWhole, rounded, steps, scoreWith}
+use Rattle.exp2m1.specs.Score.{isWhole, rounded, steps}
 use Rattle.score_with.specs.Score.{scoredWith}
 
 abbrev entry : ℕ → ℕ → ℕ → Entry
@@ -70,5 +70,5 @@ cases =
     []
 
 pub replies : T (allRight cases)
-unfolding cases allRight scoredWith refusalOf allGood ascending isGood scoreWith steps isWhole rounded find entriesFrom exp2m1Scaled exp2m1TwoTerms exp2m1Whole fastTwoSum fastSum aMul sMul dMul fusedMultiplyAdd roundToIntegral scaleB add sub mul neg eq le lt ofBits toBits ofInt toSigned toUnsigned
+unfolding cases allRight scoredWith refusalOf allGood ascending isGood steps isWhole rounded find entriesFrom exp2m1Scaled exp2m1TwoTerms exp2m1Whole fastTwoSum fastSum aMul sMul dMul fusedMultiplyAdd roundToIntegral scaleB add sub mul neg eq le lt ofBits toBits ofInt toSigned toUnsigned
 replies = tt

@@ -15,7 +15,7 @@ use Rattle.exp2m1.proofs.Small.{small, elsewhere}
 use Rattle.score_with.specs.Score.{Listed, EveryListed}
 
 pub listed : EveryListed
-unfolding scoreWith scoreBits
+unfolding scoreBits
 listed list x l = record {
   in-step-5 = λ s. (finds list (bits x), ap (toBits binary64) (small list x (bits x) l s));
   elsewhere = λ s. ap (toBits binary64) (elsewhere list x (bits x) (entries First) s);
