@@ -15,7 +15,7 @@ use crate::random::Random;
 use crate::rust;
 use crate::screen;
 use crate::service::FLOAT;
-use crate::values::{linear, uniform};
+use crate::values::{linear, uniform, whole};
 
 /// So many that no branch predictor learns them: with 4,096 of them musl's branches were foreseen in part, and it took 17 ns and not 21.
 const OPERANDS: usize = 65536;
@@ -112,6 +112,9 @@ fn score(random: &mut Random) {
     time_rounds(FEW_ROUNDS, title, &operands, &ways);
     let operands = prepare(|| one(random, -60, -4));
     let title = "score, sizes from 2^-60 to 2^-3";
+    time_rounds(FEW_ROUNDS, title, &operands, &ways);
+    let operands = prepare(|| whole(random));
+    let title = "score, whole weights from -53 to 53";
     time_rounds(FEW_ROUNDS, title, &operands, &ways);
     if rust::INSTANCES.is_empty() {
         println!("the Rust exp2m1: its source was not there");

@@ -12,7 +12,7 @@ use crate::frames::of_floats;
 use crate::random::Random;
 use crate::rust;
 use crate::streams::PROGRAM;
-use crate::values::{linear, uniform};
+use crate::values::{linear, uniform, whole};
 
 /// Where each stream in turn is written.
 const STREAM: &str = "target/compare/stream";
@@ -33,14 +33,18 @@ struct Kind {
     next: fn(&mut Random) -> Vec<u8>,
 }
 
-const KINDS: [Kind; 7] = [
+const KINDS: [Kind; 8] = [
     Kind {
         name: "scores, 64 to a frame",
-        next: |random| scores(random, 64),
+        next: |random| scores(random, 64, any_weight),
+    },
+    Kind {
+        name: "whole, 64 to a frame",
+        next: |random| scores(random, 64, whole),
     },
     Kind {
         name: "scores, 1 to a frame",
-        next: |random| scores(random, 1),
+        next: |random| scores(random, 1, any_weight),
     },
     Kind {
         name: "fused, 21 to a frame",
@@ -225,10 +229,13 @@ fn number(child: &Child, file: &str, name: &str) -> io::Result<u64> {
         .ok_or_else(|| io::Error::other(format!("{path}: no {name}")))
 }
 
-fn scores(random: &mut Random, count: usize) -> Vec<u8> {
-    let weight = || linear(random, -50.0, 50.0);
-    let weights: Vec<u64> = iter::repeat_with(weight).take(count).collect();
+fn scores(random: &mut Random, count: usize, weight: fn(&mut Random) -> u64) -> Vec<u8> {
+    let weights: Vec<u64> = iter::repeat_with(|| weight(random)).take(count).collect();
     of_floats(&[1, 1], &weights)
+}
+
+fn any_weight(random: &mut Random) -> u64 {
+    linear(random, -50.0, 50.0)
 }
 
 fn triples(random: &mut Random, front: &[u8]) -> Vec<u8> {

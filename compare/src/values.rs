@@ -123,6 +123,11 @@ pub fn linear(random: &mut Random, lo: f64, hi: f64) -> u64 {
     (lo + (hi - lo) * unit).to_bits()
 }
 
+/// A whole number from -53 to 53.
+pub fn whole(random: &mut Random) -> u64 {
+    (random.between(-53, 53) as f64).to_bits()
+}
+
 /// A special value of either sign, or any pattern.
 pub fn special(random: &mut Random) -> u64 {
     let word = random.word();

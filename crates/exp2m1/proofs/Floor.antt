@@ -1,21 +1,22 @@
--- The floor of a weight is a whole number: a whole number of at most 53 digits rounds to itself in every direction, and the quotient that floor takes is small.
+-- A weight that equals its floor is a whole number: one of at most 53 digits rounds to itself in every direction, and the quotient that floor takes is small.
 -- Below zero the quotient is moved up where something is cut off, so it is never -0 there. Assumes nothing.
 use mathlib.Core.Path.{_≡_, refl, sym, ap, _∙_, subst}
 use mathlib.Core.Bool.{Bool, true, false, cond}
 use mathlib.Core.Logic.{_⊎_, inl, inr}
 use Prim.Native.Nat.{ℕ, zero, suc, _+_, _-_, _*_, _/_, _%_, _^_, _≤_, _<_, _∣_}
-use native.Mathlib.Nat.{le-of-lt, lt-of-le-of-lt, lt-irrefl, one-mul, zero-mul, suc-mul, mul-pos, div-one, div-lt-iff-lt-mul, div-add-mod', mod-lt, mod-eq-zero-of-dvd, dvd-mul-left, eq-zero-or-pos}
+use native.Mathlib.Nat.{le-of-lt, le-of-suc-le-suc, lt-of-le-of-lt, lt-irrefl, mul-one, one-mul, zero-mul, suc-mul, mul-pos, mul-right-comm, eq-of-mul-eq-mul-right, div-one, div-lt-iff-lt-mul, div-add-mod', mod-lt, mod-eq-zero-of-dvd, dvd-mul-left, eq-zero-or-pos, eq-or-lt-of-le}
 use native.Mathlib.Omega.{arith}
-use lib.Dec.{T, lit<, ltb→lt, eqb}
+use lib.Dec.{T, lit<, ltb→lt, eqb, eqb→eq}
+use lib.IntN.{ℤ, pos, negsuc}
 use lib.Pow.{pow-pos, shl-lt}
-use lib.Ieee.{Float, nan, inf, fin, Format, binary64, prec, low, size, units, round, ofBits, ofInt, le, neg, up, down}
-use lib.Ieee.Back.{round-whole}
+use lib.Ieee.{Float, nan, inf, fin, Format, binary64, prec, low, size, units, minus, round, fits, ofBits, ofInt, lt, eq, le, neg, up, down}
+use lib.Ieee.Back.{round-whole, whole-unique}
 use lib.Ieee.Digits.{size-le}
 use lib.Ieee.Exact.{HasValue}
-use lib.Ieee.Fits.{round-is, up-pos, down-pos}
+use lib.Ieee.Fits.{round-is, round-fits, up-pos, down-pos, and-l}
 use lib.Ieee.Positive.{positive, between, le→cross, positive-of-value, values-of-le}
 use lib.Ieee.Scale.{finite}
-use borrow.Author.Tests.{ne-eqb}
+use borrow.Author.Tests.{le-leb, lt-leb, ne-eqb}
 use Rattle.rounding.specs.declared.Direction.{Direction}
 use Rattle.rounding.specs.declared.Direction.the-variants.{Nearest, Down}
 use Rattle.rounding.specs.Rounding.{whole, bounded, roundTo}
@@ -25,7 +26,7 @@ use Rattle.pair.specs.Pair.{bits}
 use Rattle.exactness.proofs.Multiples.{coarser}
 use Rattle.exactness.proofs.Units.{has-finite}
 use Rattle.exponential.specs.Range.{Between, above, below, most, deepest}
-use Rattle.exp2m1.specs.Range.{Whole, natural, negative}
+use Rattle.exp2m1_whole.specs.Whole.{Whole}
 
 -- ---- a whole number rounds to itself
 whole-of-exact : (d : Direction) (s : Bool) (n u : ℕ) → 0 < u → n % u ≡ 0 → whole d s n u ≡ n / u
@@ -56,6 +57,14 @@ round-exactly d f s n h =
     let r : units f s (whole Nearest s N u) k ≡ round f s n 1 = sym (round-is f s n 1) in
     ap (λ (x : ℕ). bounded d f (units f s x k)) q ∙ ap (bounded d f) r ∙ bounded-finite d f (round f s n 1) (has-finite (round f s n 1) s n 1 (round-whole f s n (le-of-lt h)))
 
+-- ---- what equals a whole number has its value
+cross : (a k d e n : ℕ) → 0 < d → a * d ≡ k * e → k * 1 ≡ n * d → a * 1 ≡ n * e
+cross a k d e n D h v = eq-of-mul-eq-mul-right d D (a * 1) (n * e) (ap (λ (z : ℕ). z * d) (mul-one a) ∙ h ∙ ap (λ (z : ℕ). z * e) (sym (mul-one k) ∙ v) ∙ mul-right-comm n d e)
+
+equal-value : (s : Bool) (m : ℕ) (e : ℤ) (i : Float) (n : ℕ) → HasValue i s n 1 → T (eq (fin s m e) i) → HasValue (fin s m e) s n 1
+unfolding eq
+equal-value s m e (fin t k d) n v h = (refl, cross (m * up e) (k * up d) (down d) (down e) n (down-pos d) (eqb→eq _ _ (and-l (eqb (m * up e * down d) (k * up d * down e)) _ h)) (v .1))
+
 -- ---- above zero
 quotient-lt : (n d k : ℕ) → 0 < d → n ≤ k * d → n / d < suc k
 quotient-lt n d k D h = div-lt-iff-lt-mul D .1 (let e = suc-mul k d in omega arith)
@@ -72,17 +81,29 @@ at-most-53 i n v h =
       | inr p ↦ let k = values-of-le i (bits 0x404a800000000000) n 1 53 1 (positive-of-value i n 1 v p) tt v fifty-three h in omega arith
     ]
 
-floor-above : (x : Float) → T (positive x) → T (le x most) → T (le (roundToIntegral Down x) (bits 0x404a800000000000)) → Whole (roundToIntegral Down x)
+minus-up : (n : ℕ) → minus (n + 53) 53 ≡ pos n
+minus-up n = rw (le-leb 53 (n + 53) (omega arith), sub-up)
+  where
+    sub-up : n + 53 - 53 ≡ n
+    sub-up = omega arith
+
+whole-above : (x : Float) → T (fits binary64 x) → T (positive x) → T (le x most) → T (eq x (roundToIntegral Down x)) → T (le (roundToIntegral Down x) (bits 0x404a800000000000)) → Whole x
 unfolding roundToIntegral ofInt ofBits
-floor-above (fin false m e) p l h =
+whole-above (fin false m e) f p l q h =
     let n = m * up e / down e in
     let c = le→cross (fin false m e) most p tt l in
     let b : n < 1025 = quotient-lt (m * up e) (down e) 1024 (down-pos e) (omega arith) in
     let r : roundTo Down binary64 false n 1 ≡ round binary64 false n 1 = round-exactly Down binary64 false n (lt-of-le-of-lt (le-of-lt b) (lit< tt)) in
-    natural n (at-most-53 _ n (subst (λ (i : Float). HasValue i false n 1) (sym r) (round-whole binary64 false n (omega arith))) h) r
-floor-above (fin true m e) p l h = absurd p
-floor-above nan p l h = absurd p
-floor-above (inf s) p l h = absurd p
+    let v = round-whole binary64 false n (omega arith) in
+    let k = at-most-53 _ n v (subst (λ (i : Float). T (le i (bits 0x404a800000000000))) r h) in
+    record {
+      place = n + 53;
+      last = omega arith;
+      is = whole-unique binary64 _ _ false n f (round-fits binary64 false n 1) (equal-value false m e _ n v (subst (λ (i : Float). T (eq (fin false m e) i)) r q)) v ∙ ap (ofInt binary64) (sym (minus-up n));
+    }
+whole-above (fin true m e) f p l q h = absurd p
+whole-above nan f p l q h = absurd p
+whole-above (inf s) f p l q h = absurd p
 
 -- ---- below zero
 -- the quotient, moved up where something is cut off
@@ -103,22 +124,49 @@ below-zero n d k w N D h (inl c) =
     ]
 below-zero n d k w N D h (inr c) = let q = quotient-lt n d k D h in (omega arith, omega arith)
 
-floor-below : (x : Float) → T (positive (neg x)) → T (le (neg x) deepest) → Whole (roundToIntegral Down x)
+at-least-53 : (n : ℕ) → n ≤ 54 → T (le (bits 0xc04a800000000000) (round binary64 true (suc n) 1)) → n ≤ 52
+unfolding le lt eq ofBits round
+at-least-53 n a h =
+    elim (eq-or-lt-of-le a) [
+      | inl e ↦ absurd (subst (λ (i : ℕ). T (le (bits 0xc04a800000000000) (round binary64 true (suc i) 1))) e h)
+      | inr b ↦ elim (eq-or-lt-of-le (le-of-suc-le-suc b)) [
+        | inl e ↦ absurd (subst (λ (i : ℕ). T (le (bits 0xc04a800000000000) (round binary64 true (suc i) 1))) e h)
+        | inr d ↦ le-of-suc-le-suc d
+      ]
+    ]
+
+minus-down : (n : ℕ) → n ≤ 52 → minus (52 - n) 53 ≡ negsuc n
+minus-down n h = rw (lt-leb 53 (52 - n) (omega arith), sub-down)
+  where
+    sub-down : 53 - suc (52 - n) ≡ n
+    sub-down = omega arith
+
+whole-below : (x : Float) → T (fits binary64 x) → T (positive (neg x)) → T (le (neg x) deepest) → T (eq x (roundToIntegral Down x)) → T (le (bits 0xc04a800000000000) (roundToIntegral Down x)) → Whole x
 unfolding roundToIntegral neg ofInt ofBits
-floor-below (fin true m e) p l =
+whole-below (fin true m e) f p l q h =
     let N = m * up e in
     let c = le→cross (fin false m e) deepest p tt l in
     let b = below-zero N (down e) 54 (whole Down true N (down e)) (mul-pos (ltb→lt 0 m p) (up-pos e)) (down-pos e) (omega arith) (whole-down N (down e)) in
-    go (whole Down true N (down e)) (b .0) (b .1)
+    go (whole Down true N (down e)) (b .0) (b .1) q h
   where
-    go : (n : ℕ) → 0 < n → n ≤ 55 → Whole (roundTo Down binary64 true n 1)
-    go zero a b = absurd (lt-irrefl 0 a)
-    go (suc n) a b = negative n (omega arith) (round-exactly Down binary64 true (suc n) (omega arith))
-floor-below (fin false m e) p l = absurd p
-floor-below nan p l = absurd p
-floor-below (inf s) p l = absurd p
+    go : (n : ℕ) → 0 < n → n ≤ 55 → T (eq (fin true m e) (roundTo Down binary64 true n 1)) → T (le (bits 0xc04a800000000000) (roundTo Down binary64 true n 1)) → Whole (fin true m e)
+    go zero a b q h = absurd (lt-irrefl 0 a)
+    go (suc n) a b q h =
+        let r = round-exactly Down binary64 true (suc n) (omega arith) in
+        let v = round-whole binary64 true (suc n) (omega arith) in
+        let k = at-least-53 n (omega arith) (subst (λ (i : Float). T (le (bits 0xc04a800000000000) i)) r h) in
+        record {
+          place = 52 - n;
+          last = omega arith;
+          is = whole-unique binary64 _ _ true (suc n) f (round-fits binary64 true (suc n) 1) (equal-value true m e _ (suc n) v (subst (λ (i : Float). T (eq (fin true m e) i)) r q)) v
+              ∙ ap (ofInt binary64) (sym (minus-down n k));
+        }
+whole-below (fin false m e) f p l q h = absurd p
+whole-below nan f p l q h = absurd p
+whole-below (inf s) f p l q h = absurd p
 
-pub floor-whole : (x : Float) → Between (bits 0x3cc0527dbd87e24d) most deepest x → T (le (roundToIntegral Down x) (bits 0x404a800000000000)) → Whole (roundToIntegral Down x)
+pub whole-weight : (x : Float) → T (fits binary64 x) → Between (bits 0x3cc0527dbd87e24d) most deepest x → T (eq x (roundToIntegral Down x))
+    → T (le (bits 0xc04a800000000000) (roundToIntegral Down x)) → T (le (roundToIntegral Down x) (bits 0x404a800000000000)) → Whole x
 unfolding ofBits
-floor-whole x (above a b) h = floor-above x (between (bits 0x3cc0527dbd87e24d) x most tt tt a b) b h
-floor-whole x (below a b) h = floor-below x (between (bits 0x3cc0527dbd87e24d) (neg x) deepest tt tt a b) b
+whole-weight x f (above a b) q h k = whole-above x f (between (bits 0x3cc0527dbd87e24d) x most tt tt a b) b q k
+whole-weight x f (below a b) q h k = whole-below x f (between (bits 0x3cc0527dbd87e24d) (neg x) deepest tt tt a b) b q h

@@ -8,12 +8,11 @@ use lib.Dec.{T, leb, lit≤, lit<}
 use lib.Ieee.{Float, nan, binary64, eq, ofBits, toBits, isNan}
 use lib.Ieee.Bits.{toBits-ofBits, nanBits-is, nanBits-above}
 use borrow.Author.Tests.{le-leb, lt-leb, le-ltb, lt-ltb, ltb-true}
-use Rattle.rounding.specs.declared.Direction.the-variants.{Down}
-use Rattle.ieee754.specs.Operations.{roundToIntegral}
 use Rattle.pair.specs.Pair.{bits}
 use Rattle.exceptions.specs.declared.Entry.{Entry}
 use Rattle.exceptions.specs.Lookup.{find, orElse}
-use Rattle.exp2m1.specs.Phases.{zero, exp2m1Scaled, exp2m1TwoTerms, exp2m1Whole, exp2m1Fast, exp2m1Accurate}
+use Rattle.exp2m1_whole.specs.Whole.{exp2m1Whole}
+use Rattle.exp2m1.specs.Phases.{zero, exp2m1Scaled, exp2m1TwoTerms, exp2m1Fast, exp2m1Accurate}
 use Rattle.exp2m1.specs.Score.{isWhole, rounded, steps}
 use Rattle.exp2m1.proofs.Patterns.{only-nan}
 
@@ -47,7 +46,7 @@ module _ (list : List Entry) (ux : ℕ) (x : Float) where
       over : 0x3970000000000000 < ux % 2 ^ 63
       over = le-trans (lit≤ tt) h
 
-      pub step-6 : isWhole ux x ≡ true → steps list ux x ≡ exp2m1Whole (roundToIntegral Down x)
+      pub step-6 : isWhole ux x ≡ true → steps list ux x ≡ exp2m1Whole x
       unfolding steps
       step-6 w = rw (le-ltb _ _ small, lt-leb _ _ d, lt-leb _ _ l, lt-leb _ _ over, lt-leb _ _ h, w)
 

@@ -3,16 +3,17 @@ use Prim.Native.Nat.{ℕ}
 use mathlib.Core.Bool.{Bool, true, _&&_}
 use mathlib.Core.List.{List, [], _∷_}
 use lib.Dec.{T, eqb}
-use lib.Ieee.{add, sub, mul, neg, eq, le, lt, ofBits, toBits, ofInt, toSigned, toUnsigned}
+use lib.Ieee.{round, add, sub, mul, neg, eq, le, lt, ofBits, toBits, ofInt, toSigned}
 use Rattle.rounding.specs.declared.Direction.the-variants.{Nearest}
-use Rattle.ieee754.specs.Operations.{fusedMultiplyAdd, roundToIntegral, scaleB, fusedBits}
+use Rattle.ieee754.specs.Operations.{fusedMultiplyAdd, roundToIntegral, fusedBits}
 use Rattle.double_double.specs.Pairs.{fastTwoSum, fastSum, aMul, sMul, dMul}
 use Rattle.exceptions.specs.Table.{exceptions}
 use Rattle.exceptions.specs.Lookup.{find, entryAt, entriesFrom, entries}
 use Rattle.power_tables.specs.Tables.{T1, T2}
 use Rattle.exponential.specs.Exponential.{q1, q2, scaled, timesPower, exp1, exp2}
 use Rattle.exp2m1_tiny.specs.Tiny.{hornerStep, exp2m1FastTiny, polynomialQ, exp2m1AccurateTiny}
-use Rattle.exp2m1.specs.Phases.{exp2m1Scaled, exp2m1TwoTerms, exp2m1Whole, subtractOne, exp2m1Fast, exp2m1Accurate}
+use Rattle.exp2m1_whole.specs.Whole.{powerLessOne, exp2m1Whole}
+use Rattle.exp2m1.specs.Phases.{exp2m1Scaled, exp2m1TwoTerms, subtractOne, exp2m1Fast, exp2m1Accurate}
 use Rattle.exp2m1.specs.Score.{isWhole, rounded, steps, scoreBits}
 
 pub data Call : Type 0 where
@@ -69,5 +70,5 @@ benchValues =
     []
 
 pub bench-values : T (allRight benchValues)
-unfolding benchValues allRight right fusedBits scoreBits steps isWhole rounded exp2m1Scaled exp2m1TwoTerms exp2m1Whole hornerStep exp2m1FastTiny subtractOne exp2m1Fast polynomialQ exp2m1AccurateTiny exp2m1Accurate q1 q2 scaled timesPower exp1 exp2 T1 T2 find entryAt entriesFrom entries exceptions fastTwoSum fastSum aMul sMul dMul fusedMultiplyAdd roundToIntegral scaleB add sub mul neg eq le lt ofBits toBits ofInt toSigned toUnsigned
+unfolding benchValues allRight right fusedBits scoreBits steps isWhole rounded exp2m1Scaled exp2m1TwoTerms powerLessOne exp2m1Whole hornerStep exp2m1FastTiny subtractOne exp2m1Fast polynomialQ exp2m1AccurateTiny exp2m1Accurate q1 q2 scaled timesPower exp1 exp2 T1 T2 find entryAt entriesFrom entries exceptions fastTwoSum fastSum aMul sMul dMul fusedMultiplyAdd roundToIntegral round add sub mul neg eq le lt ofBits toBits ofInt toSigned
 bench-values = tt

@@ -1,11 +1,8 @@
 -- The phases of exp2m1.rs over IEEE operations, with the source's operands and association. Definitions only.
-use Prim.Native.Nat.{_-_, _%_, _^_}
+use Prim.Native.Nat.{_%_, _^_}
 use mathlib.Core.Bool.{Bool, cond}
-use lib.IntN.{pos}
 use lib.Dec.{leb}
-use lib.Ieee.{Float, binary64, add, mul, neg, le, toBits, toSigned, toUnsigned, ofInt}
-use Rattle.rounding.specs.declared.Direction.the-variants.{Nearest}
-use Rattle.ieee754.specs.Operations.{scaleB}
+use lib.Ieee.{Float, binary64, add, mul, neg, le, toBits}
 use Rattle.pair.specs.declared.Pair.{Pair}
 use Rattle.pair.specs.Pair.{bits, pair}
 use Rattle.double_double.specs.Pairs.{fma, fastTwoSum, aMul, sMul}
@@ -41,12 +38,6 @@ exp2m1TwoTerms x =
     let p = aMul LN2H x in
     let lo = fma LN2L x (p .lo) in
     add binary64 (p .hi) (add binary64 lo (mul binary64 (mul binary64 C2 x) x))
-
--- ---- step 6: 2 ^ i - 1 for a whole number i
-unfoldable pub exp2m1Whole : Float → Float
-exp2m1Whole i =
-    cond (le zero i) (ofInt binary64 (pos (2 ^ toUnsigned 64 i - 1)))
-    (add binary64 minusOne (scaleB Nearest (bits 0x3ff0000000000000) (toSigned 31 i)))
 
 -- ---- step 7
 -- p - 1, for p about 2 ^ x

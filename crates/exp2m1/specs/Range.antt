@@ -1,20 +1,13 @@
 -- What the phases ask of a weight. Definitions only.
-use mathlib.Core.Path.{_≡_}
 use mathlib.Core.Bool.{Bool, false, cond}
-use Prim.Native.Nat.{ℕ, _≤_, _<_, _%_, _^_}
+use Prim.Native.Nat.{ℕ, _<_, _%_, _^_}
 use lib.Dec.{leb}
-use lib.IntN.{pos, negsuc}
-use lib.Ieee.{Float, binary64, toBits, ofInt}
+use lib.Ieee.{Float, binary64, toBits}
 
 -- -54 < x < 1024, by the bits
 pub record Bounded (x : Float) : Type 0 where
   pub deep : toBits binary64 x < 0xc04b000000000000
   pub large : toBits binary64 x % 2 ^ 63 < 0x4090000000000000
-
--- a whole number from -1025 to 53, and not -0
-pub data Whole (i : Float) : Type 0 where
-  natural : (n : ℕ) → n ≤ 53 → i ≡ ofInt binary64 (pos n) → Whole i
-  negative : (n : ℕ) → n ≤ 1024 → i ≡ ofInt binary64 (negsuc n) → Whole i
 
 -- step 5 decides the weight with the bits ux
 unfoldable pub isSmall : ℕ → Bool

@@ -11,7 +11,8 @@ use Rattle.exceptions.specs.declared.Entry.{Entry}
 use Rattle.exceptions.specs.declared.Stretch.the-variants.{First}
 use Rattle.exceptions.specs.Lookup.{find, orElse, entries}
 use Rattle.exp2m1_tiny.specs.declared.Estimate.{Estimate}
-use Rattle.exp2m1.specs.Phases.{zero, exp2m1Scaled, exp2m1TwoTerms, exp2m1Whole, exp2m1Fast, exp2m1Accurate}
+use Rattle.exp2m1_whole.specs.Whole.{exp2m1Whole}
+use Rattle.exp2m1.specs.Phases.{zero, exp2m1Scaled, exp2m1TwoTerms, exp2m1Fast, exp2m1Accurate}
 
 -- the low 47 bits of ux are zero, and x is a whole number from -53 to 53
 unfoldable pub isWhole : ℕ → Float → Bool
@@ -41,7 +42,7 @@ steps list ux x =
     -- 5. |x| <= 0x1.0527dbd87e24dp-51: the list, then two terms of the Taylor expansion
     (cond (leb ax 0x3cc0527dbd87e24d) (orElse (find list x) (exp2m1TwoTerms x))
     -- 6. a whole number from -53 to 53: exactly
-    (cond (isWhole ux x) (exp2m1Whole (roundToIntegral Down x))
+    (cond (isWhole ux x) (exp2m1Whole x)
     -- 7. the fast phase, and 8. the accurate phase where that does not decide
     (rounded (exp2m1Fast x (leb ax 0x3fc0000000000000)) (exp2m1Accurate x)))))))
 

@@ -17,9 +17,9 @@ ghost use mathlib.Core.Path.{_≡_};
 ghost use Prim.Native.Nat.{_%_, _^_, _<_};
 ghost use lib.Dec.{leb};
 ghost use lib.Ieee.{binary64, toBits};
-ghost use Rattle.exp2m1.specs.Phases.{exp2m1Scaled, exp2m1TwoTerms, exp2m1Whole, subtractOne, exp2m1Fast, exp2m1Accurate};
+ghost use Rattle.exp2m1.specs.Phases.{exp2m1Scaled, exp2m1TwoTerms, subtractOne, exp2m1Fast, exp2m1Accurate};
 ghost use Rattle.exp2m1.specs.Score.{isWhole, rounded, steps, scoreWith, scoreBits};
-ghost use Rattle.exp2m1.specs.Range.{Bounded, Whole, isSmall};
+ghost use Rattle.exp2m1.specs.Range.{Bounded, isSmall};
 ghost use mathlib.Core.List.{List};
 ghost use Rattle.pair.specs.Pair.{bits};
 ghost use Rattle.exceptions.specs.declared.Entry.{Entry};
@@ -109,7 +109,7 @@ fn cr_exp2m1(x: f64) -> f64
     }
     // 2^x-1 is exact for x integer, -53 <= x <= 53
     if is_whole(ux, x) {
-        return exp2m1_whole(math::floor(x));
+        return exp2m1_whole::exp2m1_whole(x);
     }
     // now -54 < x < -0x1.0527dbd87e24dp-51
     // or 0x1.0527dbd87e24dp-51 < x < 1024
@@ -185,17 +185,6 @@ fn is_whole(ux: u64, x: f64) -> bool
     } else {
         false
     }
-}
-
-// 2^i - 1 for a whole number i.
-fn exp2m1_whole(i: f64) -> f64
-    requires { ⌜ Whole i ⌝ }
-    ensures { λ r. ⌜ r ≡ exp2m1Whole i ⌝ }
-{
-    if i >= 0.0 {
-        return ((1u64 << (i as u64)) - 1) as f64;
-    }
-    MINUS_ONE + math::ldexp(1.0, i as i32)
 }
 
 // Given -54 < x < -0x1.0527dbd87e24dp-51 or 0x1.0527dbd87e24dp-51 < x < 1024, put in hi + lo

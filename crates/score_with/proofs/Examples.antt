@@ -3,16 +3,17 @@ use Prim.Native.Nat.{ℕ, _+_}
 use mathlib.Core.Bool.{Bool, true, false, _&&_}
 use mathlib.Core.List.{List, [], _∷_}
 use lib.Dec.{T, eqb}
-use lib.Ieee.{add, sub, mul, neg, eq, le, lt, ofBits, toBits, ofInt, toSigned, toUnsigned}
+use lib.Ieee.{round, add, sub, mul, neg, eq, le, lt, ofBits, toBits, toSigned}
 use Rattle.reply.specs.declared.Reply.{Reply}
 use Rattle.reply.specs.declared.Reply.the-variants.{Refused, Bits}
-use Rattle.ieee754.specs.Operations.{fusedMultiplyAdd, roundToIntegral, scaleB}
+use Rattle.ieee754.specs.Operations.{fusedMultiplyAdd, roundToIntegral}
 use Rattle.pair.specs.Pair.{bits}
 use Rattle.double_double.specs.Pairs.{fastTwoSum, fastSum, aMul, sMul, dMul}
 use Rattle.exceptions.specs.declared.Entry.{Entry}
 use Rattle.exceptions.specs.Lookup.{find, entriesFrom}
 use Rattle.exception_list.specs.List.{isGood, allGood, ascending, refusalOf}
-use Rattle.exp2m1.specs.Phases.{exp2m1Scaled, exp2m1TwoTerms, exp2m1Whole}
+use Rattle.exp2m1_whole.specs.Whole.{powerLessOne, exp2m1Whole}
+use Rattle.exp2m1.specs.Phases.{exp2m1Scaled, exp2m1TwoTerms}
 use Rattle.exp2m1.specs.Score.{isWhole, rounded, steps}
 use Rattle.score_with.specs.Score.{scoredWith}
 
@@ -70,5 +71,5 @@ cases =
     []
 
 pub replies : T (allRight cases)
-unfolding cases allRight scoredWith refusalOf allGood ascending isGood steps isWhole rounded find entriesFrom exp2m1Scaled exp2m1TwoTerms exp2m1Whole fastTwoSum fastSum aMul sMul dMul fusedMultiplyAdd roundToIntegral scaleB add sub mul neg eq le lt ofBits toBits ofInt toSigned toUnsigned
+unfolding cases allRight scoredWith refusalOf allGood ascending isGood steps isWhole rounded find entriesFrom exp2m1Scaled exp2m1TwoTerms powerLessOne exp2m1Whole fastTwoSum fastSum aMul sMul dMul fusedMultiplyAdd roundToIntegral round add sub mul neg eq le lt ofBits toBits toSigned
 replies = tt

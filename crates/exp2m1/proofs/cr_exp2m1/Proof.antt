@@ -5,18 +5,18 @@ use mathlib.Core.List.{List}
 use Prim.Native.Nat.{ℕ, _%_, _^_, _≤_, _<_}
 use lib.Dec.{T, leb, eqb}
 use lib.Ieee.{Float, nan, binary64, add, eq, le, ofBits, toBits, nanBits, fits}
-use lib.Ieee.Fits.{and-r}
+use lib.Ieee.Fits.{and-l, and-r}
 use Rattle.rounding.specs.declared.Direction.the-variants.{Down}
 use Rattle.ieee754.specs.Operations.{roundToIntegral}
 use Rattle.pair.specs.Pair.{bits}
 use Rattle.exceptions.specs.declared.Entry.{Entry}
 use Rattle.exceptions.specs.declared.Stretch.the-variants.{First}
 use Rattle.exceptions.specs.Lookup.{entries}
-use Rattle.exp2m1.specs.Range.{Bounded, Whole}
-use Rattle.exp2m1.specs.Phases.{exp2m1Scaled, exp2m1Whole}
+use Rattle.exp2m1.specs.Range.{Bounded}
+use Rattle.exp2m1.specs.Phases.{exp2m1Scaled}
 use Rattle.exp2m1.specs.Score.{isWhole, steps}
 use Rattle.exp2m1.proofs.Patterns.{nan-above, negative-number, bounded-between}
-use Rattle.exp2m1.proofs.Floor.{floor-whole}
+use Rattle.exp2m1.proofs.Floor.{whole-weight}
 use Rattle.exp2m1.proofs.Steps.{step-1, step-2, step-3, step-4, step-5, step-6, step-7}
 use borrow.Author.Needs.{needs}
 use Rattle.exp2m1.proofs.cr_exp2m1.Statement.{statement}
@@ -88,37 +88,39 @@ returns-6 c =
 bounded : (x : Float) {u : ℕ} → u ≡ toBits binary64 x → u < 0xc04b000000000000 → u % 2 ^ 63 < 0x4090000000000000 → Bounded x
 bounded x e d l = record { deep = subst (λ (n : ℕ). n < 0xc04b000000000000) e d; large = subst (λ (n : ℕ). n % 2 ^ 63 < 0x4090000000000000) e l }
 
-last-test : (u : ℕ) (x : Float) → isWhole u x ≡ true → T (le (roundToIntegral Down x) (bits 0x404a800000000000))
+whole-tests : (u : ℕ) (x : Float) → isWhole u x ≡ true
+    → T (eq x (roundToIntegral Down x)) × T (le (bits 0xc04a800000000000) (roundToIntegral Down x)) × T (le (roundToIntegral Down x) (bits 0x404a800000000000))
 unfolding isWhole
-last-test u x h =
+whole-tests u x h =
     let i = roundToIntegral Down x in
     let a : Bool = eqb (u % 2 ^ 47) 0 in
     let b : Bool = eq x i in
     let d : Bool = le (bits 0xc04a800000000000) i in
     let g : Bool = le i (bits 0x404a800000000000) in
-    and-r d g (and-r b (d && g) (and-r a (b && (d && g)) (subst T (sym h) tt)))
+    let t = and-r a (b && (d && g)) (subst T (sym h) tt) in
+    let w = and-r b (d && g) t in
+    (and-l b (d && g) t, and-l d g w, and-r d g w)
 
 exp2m1-whole-requires : tie.Need-exp2m1-whole-requires
 exp2m1-whole-requires c κs =
     let c1 = c .before in
     let c2 = c1 .before in
-    let c3 = c2 .before in
-    let c5 = c3 .before .before in
+    let c5 = c2 .before .before in
     let c7 = c5 .before .before in
     let s = c7 .before in
     let e = c7 .to-bits .ensures in
-    let r = bounded-between 0x3cc0527dbd87e24d (s .args .x) (held s) (bounded _ e (c5 .before .if1 .left) (c5 .if2 .left)) (subst (λ (u : ℕ). 0x3cc0527dbd87e24d < u % 2 ^ 63) e (c3 .if6 .left)) in
-    subst (λ (i : Float). Whole i) (sym (c .floor .ensures)) (floor-whole (s .args .x) r (last-test _ (s .args .x) (sym (c2 .is-whole .ensures) ∙ c1 .if7 .taken)))
+    let r = bounded-between 0x3cc0527dbd87e24d (s .args .x) (held s) (bounded _ e (c5 .before .if1 .left) (c5 .if2 .left)) (subst (λ (u : ℕ). 0x3cc0527dbd87e24d < u % 2 ^ 63) e (c2 .if6 .left)) in
+    let t = whole-tests _ (s .args .x) (sym (c1 .is-whole .ensures) ∙ c .if7 .taken) in
+    whole-weight (s .args .x) (held s) r (t .0) (t .1) (t .2)
 
 returns-7 : tie.Need-returns-7
 returns-7 c =
-    let c2 = c .before .before in
+    let c2 = c .before in
     let c3 = c2 .before in
     let c4 = c3 .before in
     let c6 = c4 .before .before in
     let c7 = c6 .before in
-    by-bits _ (c7 .before .to-bits .ensures)
-    (step-6 first _ _ (c7 .if1 .left) (c6 .if2 .left) (c4 .if6 .left) (sym (c3 .is-whole .ensures) ∙ c2 .if7 .taken) ∙ sym (c .exp2m1-whole .ensures ∙ ap exp2m1Whole (c .before .floor .ensures)))
+    by-bits _ (c7 .before .to-bits .ensures) (step-6 first _ _ (c7 .if1 .left) (c6 .if2 .left) (c4 .if6 .left) (sym (c3 .is-whole .ensures) ∙ c2 .if7 .taken) ∙ sym (c .exp2m1-whole .ensures))
 
 -- ---- steps 7 and 8
 exp2m1-phases-requires : tie.Need-exp2m1-phases-requires
@@ -150,7 +152,6 @@ cr-exp2m1-spec =
     returns-5
     (λ c κs. search needs)
     returns-6
-    (λ c κs. search needs)
     (λ c κs. search needs)
     exp2m1-whole-requires
     returns-7

@@ -1,0 +1,3 @@
+-- The steps of this crate's proofs.
+pub mod Exact
+pub mod Places
