@@ -3,3 +3,4 @@ pub mod Patterns
 pub mod Floor
 pub mod Steps
 pub mod Small
+pub mod Whole

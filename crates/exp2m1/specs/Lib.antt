@@ -1,4 +1,4 @@
--- What the contracts of this crate say, the bench values, and the scores of whole numbers.
+-- What the contracts of this crate say, the bench values, and what holds of whole weights.
 pub mod Constants
 pub mod Phases
 pub mod Score

@@ -15,7 +15,7 @@ use Rattle.exp2m1_whole.specs.Whole.{weight, Whole, powerLessOne, exp2m1
 use Rattle.exp2m1_whole.specs.Table.{every, same, exact, allExact}
 use Rattle.exp2m1_whole.proofs.Exact.{at-each, passed, one-float}
 
-exactly-at : (score : ℕ → Float) → T (every (λ (p : ℕ). exact p (score p)) 107) → (p : ℕ) → p ≤ 106 → Exactly p (score p)
+pub exactly-at : (score : ℕ → Float) → T (every (λ (p : ℕ). exact p (score p)) 107) → (p : ℕ) → p ≤ 106 → Exactly p (score p)
 exactly-at score t p h = passed p (score p) (at-each (λ (k : ℕ). exact k (score k)) 107 t p (omega arith))
 
 -- ---- the definition, and the source's operations
