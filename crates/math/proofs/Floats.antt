@@ -2,15 +2,14 @@
 use mathlib.Core.Path.{_≡_, refl, sym, ap, ap₂, _∙_, subst}
 use Prim.Native.Nat.{ℕ, _*_, _%_, _≤_, _<_}
 use mathlib.Core.Bool.{Bool, true, false, not, _&&_, _||_, Bool·beq, true≢false}
-use lib.IntN.{ℤ}
 use lib.Dec.{T, eqb}
 use borrow.Author.Tests.{lt-ltb, le-ltb, eq-eqb}
 use lib.Ieee.{Float, nan, inf, fin, binary64, up, down, ne, isNan, fits, div, nanBits, ofBits, toBits}
 use lib.Ieee.Bits.{ofBits-toBits, nanBits-is, nanBits-above}
 use Rattle.rounding.specs.declared.Direction.{Direction}
 use Rattle.rounding.specs.declared.Direction.the-variants.{Nearest, Down}
-use Rattle.ieee754.specs.Operations.{fusedMultiplyAdd, fusedBits, roundToIntegral, roundBits, floorBits, scaleB, scaleBits}
-use Rattle.math.proofs.Fits.{fused-fits, integral-fits, scale-fits}
+use Rattle.ieee754.specs.Operations.{fusedMultiplyAdd, fusedBits, roundToIntegral, roundBits, floorBits}
+use Rattle.math.proofs.Fits.{fused-fits, integral-fits}
 
 -- ---- x != x says that x is a NaN
 
@@ -76,7 +75,3 @@ round-floats x r a w f ea ew er = let u = ofBits binary64 a in result (roundToIn
 pub floor-floats : (x r : Float) (a w : ℕ) → fits binary64 x ≡ true → a ≡ toBits binary64 x → w ≡ floorBits a → r ≡ ofBits binary64 w → r ≡ roundToIntegral Down x
 unfolding floorBits
 floor-floats x r a w f ea ew er = let u = ofBits binary64 a in result (roundToIntegral Down u) r w (integral-fits Down u) ew er ∙ ap (roundToIntegral Down) (back x a f ea)
-
-pub scale-floats : (n : ℤ) (x r : Float) (a w : ℕ) → fits binary64 x ≡ true → a ≡ toBits binary64 x → w ≡ scaleBits a n → r ≡ ofBits binary64 w → r ≡ scaleB Nearest x n
-unfolding scaleBits
-scale-floats n x r a w f ea ew er = let u = ofBits binary64 a in result (scaleB Nearest u n) r w (scale-fits Nearest n u) ew er ∙ ap (λ (v : Float). scaleB Nearest v n) (back x a f ea)

@@ -3,7 +3,7 @@
 ghost use mathlib.Core.Path.{_≡_};
 ghost use lib.Ieee.{toBits, ofBits, binary64};
 ghost use Rattle.rounding.specs.declared.Direction.the-variants.{Nearest, Down};
-ghost use Rattle.ieee754.specs.Operations.{fusedMultiplyAdd, roundToIntegral, scaleB};
+ghost use Rattle.ieee754.specs.Operations.{fusedMultiplyAdd, roundToIntegral};
 use operands::NAN;
 use rounding::INFINITY;
 use rounding::SIGN;
@@ -74,11 +74,4 @@ pub fn floor(x: f64) -> f64
     ensures { λ r. ⌜ r ≡ roundToIntegral Down x ⌝ }
 {
     from_bits(integral::floor(to_bits(x)))
-}
-
-// x * 2^n, rounded once to nearest.
-pub fn ldexp(x: f64, n: i32) -> f64
-    ensures { λ r. ⌜ r ≡ scaleB Nearest x n ⌝ }
-{
-    from_bits(scaling::scale(to_bits(x), n))
 }
