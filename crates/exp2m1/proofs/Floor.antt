@@ -87,7 +87,11 @@ minus-up n = rw (le-leb 53 (n + 53) (omega arith), sub-up)
     sub-up : n + 53 - 53 ≡ n
     sub-up = omega arith
 
-whole-above : (x : Float) → T (fits binary64 x) → T (positive x) → T (le x most) → T (eq x (roundToIntegral Down x)) → T (le (roundToIntegral Down x) (bits 0x404a800000000000)) → Whole x
+-- x is one of the 107 weights, and its own floor
+abbrev pub Settled : Float → Type 0
+Settled x = Whole x × (roundToIntegral Down x ≡ x)
+
+whole-above : (x : Float) → T (fits binary64 x) → T (positive x) → T (le x most) → T (eq x (roundToIntegral Down x)) → T (le (roundToIntegral Down x) (bits 0x404a800000000000)) → Settled x
 unfolding roundToIntegral ofInt ofBits
 whole-above (fin false m e) f p l q h =
     let n = m * up e / down e in
@@ -96,11 +100,8 @@ whole-above (fin false m e) f p l q h =
     let r : roundTo Down binary64 false n 1 ≡ round binary64 false n 1 = round-exactly Down binary64 false n (lt-of-le-of-lt (le-of-lt b) (lit< tt)) in
     let v = round-whole binary64 false n (omega arith) in
     let k = at-most-53 _ n v (subst (λ (i : Float). T (le i (bits 0x404a800000000000))) r h) in
-    record {
-      place = n + 53;
-      last = omega arith;
-      is = whole-unique binary64 _ _ false n f (round-fits binary64 false n 1) (equal-value false m e _ n v (subst (λ (i : Float). T (eq (fin false m e) i)) r q)) v ∙ ap (ofInt binary64) (sym (minus-up n));
-    }
+    let g : fin false m e ≡ round binary64 false n 1 = whole-unique binary64 _ _ false n f (round-fits binary64 false n 1) (equal-value false m e _ n v (subst (λ (i : Float). T (eq (fin false m e) i)) r q)) v in
+    (record { place = n + 53; last = omega arith; is = g ∙ ap (ofInt binary64) (sym (minus-up n)) }, r ∙ sym g)
 whole-above (fin true m e) f p l q h = absurd p
 whole-above nan f p l q h = absurd p
 whole-above (inf s) f p l q h = absurd p
@@ -141,7 +142,7 @@ minus-down n h = rw (lt-leb 53 (52 - n) (omega arith), sub-down)
     sub-down : 53 - suc (52 - n) ≡ n
     sub-down = omega arith
 
-whole-below : (x : Float) → T (fits binary64 x) → T (positive (neg x)) → T (le (neg x) deepest) → T (eq x (roundToIntegral Down x)) → T (le (bits 0xc04a800000000000) (roundToIntegral Down x)) → Whole x
+whole-below : (x : Float) → T (fits binary64 x) → T (positive (neg x)) → T (le (neg x) deepest) → T (eq x (roundToIntegral Down x)) → T (le (bits 0xc04a800000000000) (roundToIntegral Down x)) → Settled x
 unfolding roundToIntegral neg ofInt ofBits
 whole-below (fin true m e) f p l q h =
     let N = m * up e in
@@ -149,24 +150,21 @@ whole-below (fin true m e) f p l q h =
     let b = below-zero N (down e) 54 (whole Down true N (down e)) (mul-pos (ltb→lt 0 m p) (up-pos e)) (down-pos e) (omega arith) (whole-down N (down e)) in
     go (whole Down true N (down e)) (b .0) (b .1) q h
   where
-    go : (n : ℕ) → 0 < n → n ≤ 55 → T (eq (fin true m e) (roundTo Down binary64 true n 1)) → T (le (bits 0xc04a800000000000) (roundTo Down binary64 true n 1)) → Whole (fin true m e)
+    go : (n : ℕ) → 0 < n → n ≤ 55 → T (eq (fin true m e) (roundTo Down binary64 true n 1)) → T (le (bits 0xc04a800000000000) (roundTo Down binary64 true n 1))
+        → Whole (fin true m e) × (roundTo Down binary64 true n 1 ≡ fin true m e)
     go zero a b q h = absurd (lt-irrefl 0 a)
     go (suc n) a b q h =
         let r = round-exactly Down binary64 true (suc n) (omega arith) in
         let v = round-whole binary64 true (suc n) (omega arith) in
         let k = at-least-53 n (omega arith) (subst (λ (i : Float). T (le (bits 0xc04a800000000000) i)) r h) in
-        record {
-          place = 52 - n;
-          last = omega arith;
-          is = whole-unique binary64 _ _ true (suc n) f (round-fits binary64 true (suc n) 1) (equal-value true m e _ (suc n) v (subst (λ (i : Float). T (eq (fin true m e) i)) r q)) v
-              ∙ ap (ofInt binary64) (sym (minus-down n k));
-        }
+        let g : fin true m e ≡ round binary64 true (suc n) 1 = whole-unique binary64 _ _ true (suc n) f (round-fits binary64 true (suc n) 1) (equal-value true m e _ (suc n) v (subst (λ (i : Float). T (eq (fin true m e) i)) r q)) v in
+        (record { place = 52 - n; last = omega arith; is = g ∙ ap (ofInt binary64) (sym (minus-down n k)) }, r ∙ sym g)
 whole-below (fin false m e) f p l q h = absurd p
 whole-below nan f p l q h = absurd p
 whole-below (inf s) f p l q h = absurd p
 
 pub whole-weight : (x : Float) → T (fits binary64 x) → Between (bits 0x3cc0527dbd87e24d) most deepest x → T (eq x (roundToIntegral Down x))
-    → T (le (bits 0xc04a800000000000) (roundToIntegral Down x)) → T (le (roundToIntegral Down x) (bits 0x404a800000000000)) → Whole x
+    → T (le (bits 0xc04a800000000000) (roundToIntegral Down x)) → T (le (roundToIntegral Down x) (bits 0x404a800000000000)) → Settled x
 unfolding ofBits
 whole-weight x f (above a b) q h k = whole-above x f (between (bits 0x3cc0527dbd87e24d) x most tt tt a b) b q k
 whole-weight x f (below a b) q h k = whole-below x f (between (bits 0x3cc0527dbd87e24d) (neg x) deepest tt tt a b) b q h

@@ -1,22 +1,19 @@
 -- `exp2m1::cr_exp2m1` meets its contract: Steps has each step by its tests. Assumes nothing.
 use mathlib.Core.Path.{_≡_, sym, ap, _∙_, subst}
-use mathlib.Core.Bool.{Bool, true, _&&_, cond}
+use mathlib.Core.Bool.{Bool, cond}
 use mathlib.Core.List.{List}
 use Prim.Native.Nat.{ℕ, _%_, _^_, _≤_, _<_}
-use lib.Dec.{T, leb, eqb}
-use lib.Ieee.{Float, nan, binary64, add, eq, le, ofBits, toBits, nanBits, fits}
-use lib.Ieee.Fits.{and-l, and-r}
-use Rattle.rounding.specs.declared.Direction.the-variants.{Down}
-use Rattle.ieee754.specs.Operations.{roundToIntegral}
+use lib.Dec.{T, leb}
+use lib.Ieee.{Float, nan, binary64, add, ofBits, toBits, nanBits, fits}
 use Rattle.pair.specs.Pair.{bits}
 use Rattle.exceptions.specs.declared.Entry.{Entry}
 use Rattle.exceptions.specs.declared.Stretch.the-variants.{First}
 use Rattle.exceptions.specs.Lookup.{entries}
 use Rattle.exp2m1.specs.Range.{Bounded}
 use Rattle.exp2m1.specs.Phases.{exp2m1Scaled}
-use Rattle.exp2m1.specs.Score.{isWhole, steps}
-use Rattle.exp2m1.proofs.Patterns.{nan-above, negative-number, bounded-between}
-use Rattle.exp2m1.proofs.Floor.{whole-weight}
+use Rattle.exp2m1.specs.Score.{steps}
+use Rattle.exp2m1.proofs.Patterns.{nan-above, negative-number}
+use Rattle.exp2m1.proofs.Whole.{settled}
 use Rattle.exp2m1.proofs.Steps.{step-1, step-2, step-3, step-4, step-5, step-6, step-7}
 use borrow.Author.Needs.{needs}
 use Rattle.exp2m1.proofs.cr_exp2m1.Statement.{statement}
@@ -88,19 +85,6 @@ returns-6 c =
 bounded : (x : Float) {u : ℕ} → u ≡ toBits binary64 x → u < 0xc04b000000000000 → u % 2 ^ 63 < 0x4090000000000000 → Bounded x
 bounded x e d l = record { deep = subst (λ (n : ℕ). n < 0xc04b000000000000) e d; large = subst (λ (n : ℕ). n % 2 ^ 63 < 0x4090000000000000) e l }
 
-whole-tests : (u : ℕ) (x : Float) → isWhole u x ≡ true
-    → T (eq x (roundToIntegral Down x)) × T (le (bits 0xc04a800000000000) (roundToIntegral Down x)) × T (le (roundToIntegral Down x) (bits 0x404a800000000000))
-unfolding isWhole
-whole-tests u x h =
-    let i = roundToIntegral Down x in
-    let a : Bool = eqb (u % 2 ^ 47) 0 in
-    let b : Bool = eq x i in
-    let d : Bool = le (bits 0xc04a800000000000) i in
-    let g : Bool = le i (bits 0x404a800000000000) in
-    let t = and-r a (b && (d && g)) (subst T (sym h) tt) in
-    let w = and-r b (d && g) t in
-    (and-l b (d && g) t, and-l d g w, and-r d g w)
-
 exp2m1-whole-requires : tie.Need-exp2m1-whole-requires
 exp2m1-whole-requires c κs =
     let c1 = c .before in
@@ -109,9 +93,8 @@ exp2m1-whole-requires c κs =
     let c7 = c5 .before .before in
     let s = c7 .before in
     let e = c7 .to-bits .ensures in
-    let r = bounded-between 0x3cc0527dbd87e24d (s .args .x) (held s) (bounded _ e (c5 .before .if1 .left) (c5 .if2 .left)) (subst (λ (u : ℕ). 0x3cc0527dbd87e24d < u % 2 ^ 63) e (c2 .if6 .left)) in
-    let t = whole-tests _ (s .args .x) (sym (c1 .is-whole .ensures) ∙ c .if7 .taken) in
-    whole-weight (s .args .x) (held s) r (t .0) (t .1) (t .2)
+    settled (s .args .x) _ (held s) (bounded _ e (c5 .before .if1 .left) (c5 .if2 .left)) (subst (λ (u : ℕ). 0x3cc0527dbd87e24d < u % 2 ^ 63) e (c2 .if6 .left))
+    (sym (c1 .is-whole .ensures) ∙ c .if7 .taken) .0
 
 returns-7 : tie.Need-returns-7
 returns-7 c =
