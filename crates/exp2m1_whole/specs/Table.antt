@@ -1,19 +1,21 @@
 -- The test of a table of the 107 scores, computed over the whole of it. Definitions only.
 use mathlib.Core.Bool.{Bool, true, false, _&&_, Bool·beq}
 use mathlib.Core.List.{List}
-use Prim.Native.Nat.{ℕ, zero, suc, _^_}
+use Prim.Native.Nat.{ℕ, zero, suc}
 use lib.Dec.{eqb, ltb}
-use lib.IntN.{ℤ, pos, negsuc, _-ℤ_, _*ℤ_}
+use lib.IntN.{ℤ, pos, negsuc}
 use lib.ListN.{getD}
 use lib.Ieee.{Float, nan, binary64, fits}
 use lib.Ieee.Scale.{finite}
-use Rattle.exactness.specs.Values.{sign, value}
+use Rattle.exactness.specs.Values.{sign}
+use Rattle.exp2m1_whole.specs.Whole.{scaledScore, scaledExact}
 
 -- each number below n passes a test
 unfoldable pub every : (ℕ → Bool) → ℕ → Bool
 every t zero = true
 every t (suc n) = t n && every t n
 
+-- equal numbers
 unfoldable pub same : ℤ → ℤ → Bool
 same (pos a) (pos b) = eqb a b
 same (pos a) (negsuc b) = false
@@ -22,8 +24,7 @@ same (negsuc a) (negsuc b) = eqb a b
 
 -- what Exactly asks
 unfoldable pub exact : ℕ → Float → Bool
-exact p r =
-    fits binary64 r && (finite r && (Bool·beq (sign r) (ltb p 53) && same (value binary64 r *ℤ pos (2 ^ 53)) ((pos (2 ^ p) -ℤ pos (2 ^ 53)) *ℤ pos (2 ^ 1074))))
+exact p r = fits binary64 r && (finite r && (Bool·beq (sign r) (ltb p 53) && same (scaledScore r) (scaledExact p)))
 
 unfoldable pub allExact : List Float → Bool
 allExact scores = every (λ (p : ℕ). exact p (getD scores p nan)) 107

@@ -29,13 +29,20 @@ powerLessOne (negsuc n) = round binary64 true (2 ^ suc n - 1) (2 ^ suc n)
 unfoldable pub exp2m1Whole : Float → Float
 exp2m1Whole x = powerLessOne (toSigned 31 x)
 
--- r is exactly 2 ^ x - 1 for the weight x at the place p: 2 ^ 53 times r is 2 ^ (x + 53) - 2 ^ 53, both in units of 2 ^ -1074
+-- 2 ^ 53 times r, and 2 ^ p - 2 ^ 53, in units of 2 ^ -1074
+abbrev pub scaledScore : Float → ℤ
+scaledScore r = value binary64 r *ℤ pos (2 ^ 53)
+
+abbrev pub scaledExact : ℕ → ℤ
+scaledExact p = (pos (2 ^ p) -ℤ pos (2 ^ 53)) *ℤ pos (2 ^ 1074)
+
+-- r is exactly 2 ^ x - 1 for the weight x at the place p: 2 ^ 53 times r is 2 ^ (x + 53) - 2 ^ 53
 pub record Exactly (p : ℕ) (r : Float) : Type 0 where
   pub held : T (fits binary64 r)
   pub is-finite : T (finite r)
   -- a zero is +0
   pub negative : sign r ≡ ltb p 53
-  pub scaled : value binary64 r *ℤ pos (2 ^ 53) ≡ (pos (2 ^ p) -ℤ pos (2 ^ 53)) *ℤ pos (2 ^ 1074)
+  pub scaled : scaledScore r ≡ scaledExact p
 
 -- for each of the 107 weights there is one such float, and exp2m1Whole gives it
 pub record WholeExact (p : ℕ) : Type 0 where
