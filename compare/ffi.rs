@@ -21,8 +21,17 @@ pub struct PartialFrame {
 
 #[repr(C)]
 #[derive(Clone, Copy, PartialEq, Eq)]
+pub struct Counts {
+    pub accepted: u64,
+    pub refused: u64,
+    pub total: u64,
+}
+
+#[repr(C)]
+#[derive(Clone, Copy, PartialEq, Eq)]
 pub struct State {
     pub frame: PartialFrame,
+    pub counts: Counts,
 }
 
 #[repr(C)]

@@ -58,8 +58,9 @@ enum {
     WEIGHER_SHORT_BODY = 1,     /* the body has under 2 bytes */
     WEIGHER_LONG_BODY = 2,      /* it has over WEIGHER_LONGEST_BODY bytes */
     WEIGHER_BAD_VERSION = 3,    /* the version is not 1 */
-    WEIGHER_BAD_KIND = 4,       /* the kind is not 1, 2 or 3 */
-    WEIGHER_BAD_PAYLOAD = 5,    /* the payload has no items, or a part of one */
+    WEIGHER_BAD_KIND = 4,       /* the kind is not one of 1 to 4 */
+    WEIGHER_BAD_PAYLOAD = 5,    /* the payload has no items, or a part of one,
+                                   or is a report's and not empty */
     WEIGHER_SMALL_BUFFER = 6,   /* the buffer is under WEIGHER_ANSWER_ROOM */
     WEIGHER_BAD_STATE = 7,      /* the state is one that no bytes leave */
     WEIGHER_UNFINISHED = 8,     /* the stream ended inside a frame */
@@ -81,12 +82,30 @@ typedef struct weigher_frame {
     uint8_t body[WEIGHER_LONGEST_BODY];
 } weigher_frame;
 
+/* The frames that ended since weigher_fresh, each number stopped at 2^64-1,
+ * UINT64_MAX. weigher_close keeps them, and its refusal 8 is not counted; calls
+ * refused by 6 or 7 leave them as they are. A state whose total is not the sum
+ * of the other two, stopped at 2^64-1, is refused by 7; apart from that the
+ * numbers decide nothing.
+ *
+ * A frame of kind 4 is a report. Its payload is empty, so that it is the bytes
+ * 00 02 01 04, and its answer is 28 bytes: 00 1a 01 00 and then accepted,
+ * refused and total, 8 bytes each, big-endian, of the frames that ended before
+ * it. It does not count itself; later reports count it as accepted. With a
+ * payload it is refused by 5, and counted as refused. */
+typedef struct weigher_counts {
+    uint64_t accepted; /* frames that were answered and not refused */
+    uint64_t refused;  /* frames that were refused by 1 to 5 or 11 */
+    uint64_t total;    /* both */
+} weigher_counts;
+
 /* All that the service knows between calls. It is a plain value, to be copied,
  * stored or sent at will; two are equal where their fields are (there is
  * padding behind the body). Any value may be handed to a call, and one that no
  * bytes leave is refused by 7. */
 typedef struct weigher_state {
     weigher_frame frame;
+    weigher_counts counts;
 } weigher_state;
 
 typedef struct weigher_taken {
@@ -109,7 +128,8 @@ typedef struct weigher_handed_on {
     uint8_t refusal; /* 6, 7 or 0; for a frame, byte 3 of its answer has it */
 } weigher_handed_on;
 
-/* The state before a stream's first byte. Each whole frame leaves it too. */
+/* The state before a stream's first byte, with all counts 0. Each whole frame
+ * leaves it too, but for the counts. */
 weigher_state weigher_fresh(void);
 
 /* Uses the piece up to the end of the first frame that ends in it, or all of
@@ -121,15 +141,16 @@ weigher_taken weigher_take(weigher_state state,
                            uint8_t *answer, size_t answer_len);
 
 /* Ends the stream. An unfinished frame is answered by refusal 8; where there is
- * none, len and refusal are 0. The state is then fresh, for a next stream. */
+ * none, len and refusal are 0. The state is then fresh but for the counts, for
+ * a next stream. */
 weigher_closed weigher_close(weigher_state state,
                              uint8_t *answer, size_t answer_len);
 
 /* weigher_take on the piece's unused end, again and again, until the piece is
  * used up or the buffer has under WEIGHER_ANSWER_ROOM bytes left. So a piece
  * that has a byte is used in part at least, unless 6 or 7 refuses the call. A
- * buffer of 2 * piece_len + 2 * WEIGHER_ANSWER_ROOM bytes has room for the
- * answers to the whole piece. */
+ * buffer of 7 * piece_len + 2 * WEIGHER_ANSWER_ROOM bytes has room for the
+ * answers to the whole piece: a report's has 7 times the bytes of its frame. */
 weigher_handed_on weigher_hand_on(weigher_state state,
                                   const uint8_t *piece, size_t piece_len,
                                   uint8_t *answers, size_t answers_len);

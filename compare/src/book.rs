@@ -1,8 +1,9 @@
-//! The plain book of document 01, call by call, and the state for the bytes in it, written from document 01 alone. Its answers are those of
-//! service.rs.
+//! The plain book of document 01, call by call, and the state for the bytes in it and its counts, written from document 01 and request A.6
+//! alone. Its answers are those of service.rs.
 
 use ffi::{PartialFrame, State};
 
+use crate::counts::TrueCounts;
 use crate::service::{self, LONGEST_BODY, Operations};
 
 /// The least answer buffer.
@@ -34,7 +35,7 @@ pub struct Reply {
     pub buffer: Vec<u8>,
 }
 
-/// The service in document 01's words: the state that it was left in, and the book whose bytes leave that state, where one does.
+/// The service in document 01's words: the state that it was left in, and a book that leaves that state, where one does.
 pub struct Service<'a> {
     state: State,
     pub book: Option<Book>,
@@ -42,10 +43,11 @@ pub struct Service<'a> {
 }
 
 impl<'a> Service<'a> {
-    pub fn new(state: State, operations: &'a Operations) -> Self {
+    /// Where the state shows a count at its end, the book has counted so much further.
+    pub fn new(state: State, further: u128, operations: &'a Operations) -> Self {
         Service {
             state,
-            book: Book::of(&state),
+            book: Book::of(&state, further),
             operations,
         }
     }
@@ -91,9 +93,10 @@ impl<'a> Service<'a> {
     }
 }
 
-/// The bytes of the present frame that have come.
+/// The bytes of the present frame that have come, and the counts of the book's own answers, without those of close.
 pub struct Book {
     held: Vec<u8>,
+    counts: TrueCounts,
 }
 
 /// What the book gives for a call that neither 6 nor 7 refuses.
@@ -105,20 +108,23 @@ struct Entry {
 }
 
 impl Book {
+    /// A book that has answered nothing.
     pub fn holding(held: &[u8]) -> Self {
         Book {
             held: held.to_vec(),
+            counts: TrueCounts::default(),
         }
     }
 
-    /// The book whose bytes leave a state: those that the state shows, where they are no whole frame and leave that very state. For the
-    /// bytes of a body that is not kept, zeros stand.
-    fn of(state: &State) -> Option<Book> {
+    /// A book that leaves a state, with the bytes and the counts that the state shows. There is none where the bytes are a whole frame or
+    /// leave another state, nor where the counts have another total. For the bytes of a body that is not kept, zeros stand.
+    fn of(state: &State, further: u128) -> Option<Book> {
         let frame = &state.frame;
         let mut held = vec![frame.hi, frame.lo];
         held.extend(frame.body);
         held.resize(frame.count.min(LONGEST_FRAME), 0);
-        let book = Book { held };
+        let counts = TrueCounts::of(&state.counts, further);
+        let book = Book { held, counts };
         (!book.is_whole() && book.state() == *state).then_some(book)
     }
 
@@ -134,7 +140,8 @@ impl Book {
         service::first_frame(&self.held).is_some()
     }
 
-    /// How many bytes have come, the length bytes and, where L is 2 to 514, the body bytes so far; 0 in all other places.
+    /// How many bytes have come, the length bytes and, where L is 2 to 514, the body bytes so far; 0 in all other places of the frame. Then
+    /// the counts, stopped.
     pub fn state(&self) -> State {
         let mut body = [0; LONGEST_BODY];
         if let [hi, lo, so_far @ ..] = &self.held[..]
@@ -149,18 +156,20 @@ impl Book {
                 lo: self.held.get(1).copied().unwrap_or(0),
                 body,
             },
+            counts: self.counts.shown(),
         }
     }
 
     /// Bytes are moved from the piece's front, one by one, until the book holds a whole frame or the piece is used up. A whole frame is
-    /// answered and the book emptied.
+    /// answered and counted, and the book's bytes are emptied.
     fn take(&mut self, piece: &[u8], operations: &Operations) -> Entry {
         let mut entry = Entry::default();
         for byte in piece {
             self.held.push(*byte);
             entry.used += 1;
             if let Some((body, _)) = service::first_frame(&self.held) {
-                entry.number = service::answer(body, operations, &mut entry.answer);
+                entry.number =
+                    service::answer(body, operations, &mut self.counts, &mut entry.answer);
                 self.held.clear();
                 break;
             }
@@ -168,6 +177,7 @@ impl Book {
         entry
     }
 
+    /// It keeps the counts, and is not counted.
     fn close(&mut self) -> Entry {
         let mut entry = Entry::default();
         if !self.held.is_empty() {

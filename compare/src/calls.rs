@@ -1,6 +1,6 @@
 //! Lists of calls of take, close and hand_on, on any state, beside the book of book.rs.
 
-use ffi::State;
+use ffi::{Counts, State};
 
 use crate::book::{Book, Call, Kind, Reply, Service};
 use crate::random::Random;
@@ -20,6 +20,12 @@ const GOOD_BY_CHANCE: &str = "good by chance";
 
 /// What may come of a frame of version 1 and kind 3 that is not too long.
 const DIRECTED: &str = "nearest|toward zero|up|down|11, direction byte alone|11, more behind it|5, empty|5, direction byte alone|5, no multiple of 24";
+
+/// What may come of a frame of version 1 and kind 4 that is not too long: the numbers of the report, or refusal 5.
+const REPORTED: &str = "none counted|some counted|total alone at its end|accepted and total at their ends|refused and total at their ends|all at their ends|5";
+
+/// How much further a book may have counted than a number at its end shows.
+const FURTHER: [u128; 4] = [0, 1, 1 << 64, 1 << 100];
 
 /// Where there is no Rust exp2m1 the scores are the weigher's own, and all else is compared.
 const WITHOUT_SOURCE: Operations = Operations {
@@ -48,6 +54,8 @@ struct Lists {
     hand_on: Tally,
     handed_on: Tally,
     directed: Tally,
+    reported: Tally,
+    ended: Tally,
 }
 
 impl Lists {
@@ -62,7 +70,7 @@ impl Lists {
         } else {
             &service::REFERENCE
         };
-        let mut names = states::KINDS.map(|kind| kind.name).to_vec();
+        let mut names = states::names();
         names.push(GOOD_BY_CHANCE);
         Lists {
             random: Random::new(8),
@@ -77,6 +85,11 @@ impl Lists {
             ),
             handed_on: Tally::new("answers of hand_on, by their code", "0|1|2|3|4|11|5"),
             directed: Tally::new("frames of kind 3, by their payload", DIRECTED),
+            reported: Tally::new("frames of kind 4, by their answer", REPORTED),
+            ended: Tally::new(
+                "counts that a call brought to their end",
+                "accepted|refused|total",
+            ),
         }
     }
 
@@ -84,7 +97,8 @@ impl Lists {
     fn run(&mut self, list: u64) {
         let kind = states::any(&mut self.random);
         let Start { mut state, rest } = (kind.start)(&mut self.random);
-        let mut service = Service::new(state, self.operations);
+        let further = self.random.pick(&FURTHER);
+        let mut service = Service::new(state, further, self.operations);
         let bad = service.book.is_none();
         match (kind.bad, bad) {
             (false, true) => {
@@ -102,7 +116,8 @@ impl Lists {
             let want = service.call(&call);
             self.tally(&call, &want, bad);
             bytes.extend(&call.piece[..want.used]);
-            self.tally_directed(&bytes);
+            self.tally_frames(&bytes, &want.buffer[..want.len]);
+            self.tally_ends(&state.counts, &want.state.counts);
             let got = weigher(state, &call);
             let differences = differences(&got, &want);
             if !differences.is_empty() {
@@ -140,15 +155,28 @@ impl Lists {
         }
     }
 
-    /// The frames of kind 3 among the bytes that were held before a call and those that it moved.
-    fn tally_directed(&mut self, mut bytes: &[u8]) {
-        while let Some((body, rest)) = service::first_frame(bytes) {
-            if let [1, 3, payload @ ..] = body
-                && body.len() <= LONGEST_BODY
-            {
-                self.directed.count(directed_outcome(payload));
+    /// The frames of kinds 3 and 4 among the bytes that were held before a call and those that it moved, and the call's answers.
+    fn tally_frames(&mut self, bytes: &[u8], answers: &[u8]) {
+        for (body, answer) in service::bodies(bytes).zip(service::bodies(answers)) {
+            match body {
+                _ if LONGEST_BODY < body.len() => {}
+                [1, 3, payload @ ..] => self.directed.count(directed_outcome(payload)),
+                [1, 4, ..] => self.reported.count(reported_outcome(&answer[2..])),
+                _ => {}
             }
-            bytes = rest;
+        }
+    }
+
+    fn tally_ends(&mut self, before: &Counts, after: &Counts) {
+        let numbers = [
+            ("accepted", before.accepted, after.accepted),
+            ("refused", before.refused, after.refused),
+            ("total", before.total, after.total),
+        ];
+        for (name, before, after) in numbers {
+            if before < after && after == u64::MAX {
+                self.ended.count(name);
+            }
         }
     }
 
@@ -160,6 +188,8 @@ impl Lists {
             &self.hand_on,
             &self.handed_on,
             &self.directed,
+            &self.reported,
+            &self.ended,
         ];
         let reached = tallies.map(Tally::print);
         self.mismatches.print() && !reached.contains(&false)
@@ -180,14 +210,22 @@ fn directed_outcome(payload: &[u8]) -> &'static str {
     }
 }
 
-/// The code of each answer.
-fn codes(mut answers: &[u8]) -> Vec<u8> {
-    let mut codes = Vec::new();
-    while let Some((body, rest)) = service::first_frame(answers) {
-        codes.push(body[1]);
-        answers = rest;
+/// By the numbers of the answer; a refusal has none.
+fn reported_outcome(numbers: &[u8]) -> &'static str {
+    match service::patterns(numbers)[..] {
+        [] => "5",
+        [0, 0, 0] => "none counted",
+        [u64::MAX, u64::MAX, _] => "all at their ends",
+        [u64::MAX, ..] => "accepted and total at their ends",
+        [_, u64::MAX, _] => "refused and total at their ends",
+        [.., u64::MAX] => "total alone at its end",
+        _ => "some counted",
     }
-    codes
+}
+
+/// The code of each answer.
+fn codes(answers: &[u8]) -> Vec<u8> {
+    service::bodies(answers).map(|body| body[1]).collect()
 }
 
 fn weigher(state: State, call: &Call) -> Reply {
@@ -215,23 +253,34 @@ fn weigher(state: State, call: &Call) -> Reply {
     }
 }
 
+/// The fields that are single numbers.
+fn numbers(reply: &Reply) -> [(&'static str, u64); 9] {
+    let State { frame, counts } = &reply.state;
+    [
+        ("used", reply.used as u64),
+        ("length", reply.len as u64),
+        ("number", reply.number.into()),
+        ("state's count", frame.count as u64),
+        ("state's hi", frame.hi.into()),
+        ("state's lo", frame.lo.into()),
+        ("state's accepted", counts.accepted),
+        ("state's refused", counts.refused),
+        ("state's total", counts.total),
+    ]
+}
+
 /// A line for each field that differs.
 fn differences(got: &Reply, want: &Reply) -> Vec<String> {
-    let (frame, reference) = (&got.state.frame, &want.state.frame);
-    let numbers = [
-        ("used", got.used, want.used),
-        ("length", got.len, want.len),
-        ("number", got.number.into(), want.number.into()),
-        ("state's count", frame.count, reference.count),
-        ("state's hi", frame.hi.into(), reference.hi.into()),
-        ("state's lo", frame.lo.into(), reference.lo.into()),
-    ];
     let bytes = [
-        ("state's body", &frame.body[..], &reference.body[..]),
+        (
+            "state's body",
+            &got.state.frame.body[..],
+            &want.state.frame.body[..],
+        ),
         ("buffer", &got.buffer, &want.buffer),
     ];
     let mut lines = Vec::new();
-    for (name, got, want) in numbers {
+    for ((name, got), (_, want)) in numbers(got).into_iter().zip(numbers(want)) {
         if got != want {
             lines.push(format!("{name}: weigher {got}, reference {want}"));
         }
@@ -252,7 +301,7 @@ fn shown(state: &State, call: &Call) -> String {
         Kind::Close => "close",
         Kind::HandOn => "hand_on",
     };
-    let frame = &state.frame;
+    let State { frame, counts } = state;
     let body = hexadecimal(&frame.body);
     let lines = [
         name.to_string(),
@@ -261,6 +310,10 @@ fn shown(state: &State, call: &Call) -> String {
             frame.count, frame.hi, frame.lo
         ),
         format!("state's body: {body}"),
+        format!(
+            "state's counts: accepted {}, refused {}, total {}",
+            counts.accepted, counts.refused, counts.total
+        ),
         format!(
             "piece of {} bytes: {}",
             call.piece.len(),

@@ -1,4 +1,4 @@
-//! Frames for the service: at the bounds of each refusal, and random ones.
+//! Frames for the service: at the bounds of each refusal, with reports among them, and random ones.
 
 use crate::cases::{directed_operands, fused_operands};
 use crate::random::Random;
@@ -9,7 +9,8 @@ use crate::service::{FLOAT, LONGEST_BODY};
 #[derive(Clone, Copy)]
 struct Header(usize, &'static [u8]);
 
-const BOUNDS: [Header; 44] = [
+/// None is a report that is accepted, so that the answer to each depends on it alone.
+const BOUNDS: [Header; 49] = [
     // The bench values of document 01: 64 scores, then 2, 5 and 5.
     Header(514, &[1, 1]),
     Header(515, &[1, 1]),
@@ -22,15 +23,18 @@ const BOUNDS: [Header; 44] = [
     // 2, also where 3 and 4 apply
     Header(516, &[1, 2]),
     Header(515, &[0, 0]),
-    // 3, also where 4, 11 or 5 applies
+    // 3, also where 4, 11 or 5 applies, and of what would be a report
     Header(10, &[0, 1]),
-    Header(10, &[2, 4]),
+    Header(10, &[2, 5]),
     Header(3, &[2, 3, 4]),
     Header(2, &[255, 1]),
+    Header(2, &[2, 4]),
     // 4, also where 5 applies, and a direction byte would be refused
     Header(10, &[1, 0]),
-    Header(10, &[1, 4]),
-    Header(3, &[1, 4, 4]),
+    Header(10, &[1, 5]),
+    Header(3, &[1, 5, 4]),
+    Header(2, &[1, 0]),
+    Header(2, &[1, 5]),
     Header(2, &[1, 255]),
     // 11, also where 5 applies
     Header(3, &[1, 3, 4]),
@@ -54,6 +58,9 @@ const BOUNDS: [Header; 44] = [
     Header(11, &[1, 3, 1]),
     Header(26, &[1, 3, 2]),
     Header(28, &[1, 3, 3]),
+    // 5 of kind 4: a report with one byte and with eight
+    Header(3, &[1, 4]),
+    Header(10, &[1, 4]),
     // Answered: one item, and many.
     Header(10, &[1, 1]),
     Header(26, &[1, 2]),
@@ -65,20 +72,49 @@ const BOUNDS: [Header; 44] = [
     Header(506, &[1, 2]),
 ];
 
-/// Those of kind 3 that are long.
-const LONG_BOUNDS: [Header; 8] = [
-    // 2, also where 11 applies
+/// Those of kinds 3 and 4 that are long.
+const LONG_BOUNDS: [Header; 10] = [
+    // 2, also where 11 or 5 applies
     Header(515, &[1, 3, 0]),
     Header(531, &[1, 3, 4]),
+    Header(515, &[1, 4]),
     // 11
     Header(507, &[1, 3, 4]),
     // 5
     Header(506, &[1, 3, 1]),
     Header(508, &[1, 3, 2]),
     Header(514, &[1, 3, 3]),
+    Header(514, &[1, 4]),
     // Answered
     Header(483, &[1, 3, 0]),
     Header(507, &[1, 3, 2]),
+];
+
+const REPORT: Header = Header(2, &[1, 4]);
+
+/// Reports, the second of which counts the first, and reports behind frames that are accepted and refused.
+const REPORTS: [Header; 15] = [
+    REPORT,
+    REPORT,
+    // Accepted
+    Header(10, &[1, 1]),
+    REPORT,
+    // 1
+    Header(0, &[1, 1]),
+    REPORT,
+    // 3
+    Header(2, &[2, 4]),
+    REPORT,
+    // 4
+    Header(2, &[1, 0]),
+    REPORT,
+    // 5, of a report
+    Header(3, &[1, 4]),
+    REPORT,
+    // 11
+    Header(3, &[1, 3, 4]),
+    REPORT,
+    REPORT,
 ];
 
 /// The bytes of a triple.
@@ -87,16 +123,21 @@ const TRIPLE: usize = 3 * FLOAT;
 /// The longest body that the length bytes can announce.
 const LONGEST: usize = 65_535;
 
-/// A frame for each of the bounds, but for the long ones of kind 3.
+/// A frame for each of the bounds, but for the long ones of kinds 3 and 4.
 pub fn at_bounds(random: &mut Random) -> Vec<u8> {
     of_headers(&BOUNDS, random)
 }
 
-/// A frame for each of the long bounds of kind 3, and the longest of all.
+/// A frame for each of the long bounds, and the longest of all.
 pub fn at_long_bounds(random: &mut Random) -> Vec<u8> {
     let mut frames = of_headers(&LONG_BOUNDS, random);
     frames.extend(frame(LONGEST, &[1, 1], random));
     frames
+}
+
+/// Reports among other frames, always of as many bytes.
+pub fn reports(random: &mut Random) -> Vec<u8> {
+    of_headers(&REPORTS, random)
 }
 
 fn of_headers(headers: &[Header], random: &mut Random) -> Vec<u8> {
@@ -113,8 +154,20 @@ pub fn unfinished(random: &mut Random) -> Vec<u8> {
     frame
 }
 
-/// A frame of any length, version and kind. Most are answered.
+/// A frame of any length, version and kind, one in eight a report. Most are answered.
 pub fn any(random: &mut Random) -> Vec<u8> {
+    match random.below(8) {
+        0 => report(random),
+        _ => any_but_report(random),
+    }
+}
+
+pub fn report(random: &mut Random) -> Vec<u8> {
+    of_headers(&[REPORT], random)
+}
+
+/// A frame of any length, version and kind whose answer depends on it alone: a report has a payload, and is refused.
+pub fn any_but_report(random: &mut Random) -> Vec<u8> {
     match random.below(13) {
         0..4 => frame(2 + items(64, random) * FLOAT, &[1, 1], random),
         4..7 => frame(2 + items(21, random) * TRIPLE, &[1, 2], random),
@@ -123,7 +176,8 @@ pub fn any(random: &mut Random) -> Vec<u8> {
             frame(3 + items(21, random) * TRIPLE, &front, random)
         }
         9 => {
-            let front = [random.word() as u8, random.below(5) as u8];
+            let version = random.word() as u8;
+            let front = [random.pick(&[1, version]), random.below(6) as u8];
             frame(2 + items(64, random) * FLOAT, &front, random)
         }
         10 => of_headers(&[random.pick(&BOUNDS)], random),
@@ -132,7 +186,7 @@ pub fn any(random: &mut Random) -> Vec<u8> {
             let near = LONGEST_BODY - 1 + random.below(4) as usize;
             let length = random.pick(&[near, near, near, near, 1000, LONGEST]);
             let directed = [1, 3, direction(random)];
-            let front = random.pick(&[&[1, 1], &[1, 2], &directed[..]]);
+            let front = random.pick(&[&[1, 1], &[1, 2], &directed[..], &[1, 4]]);
             frame(length, front, random)
         }
     }

@@ -1,6 +1,6 @@
-//! The weigher's operations and program beside the machine's, the Rust exp2m1, MPFR and a service written from document 01 and request A.3
-//! alone, its score with a lent list beside plain loops, and its reader of constants beside C's: test vectors and streams, comparisons and
-//! timings (see README.md).
+//! The weigher's operations and program beside the machine's, the Rust exp2m1, MPFR and a service written from document 01 and requests
+//! A.3 and A.6 alone, its score with a lent list beside plain loops, and its reader of constants beside C's: test vectors and streams,
+//! comparisons and timings (see README.md).
 
 mod bench;
 mod book;
@@ -8,6 +8,7 @@ mod calls;
 mod case;
 mod cases;
 mod constants;
+mod counts;
 mod directions;
 mod entries;
 mod frames;

@@ -5,6 +5,7 @@ use std::io::{self, Read, Write};
 use std::os::fd::AsFd;
 
 use crate::case::Case;
+use crate::counts::TrueCounts;
 use crate::service::{self, Operations};
 
 /// The weigher's own operations.
@@ -22,6 +23,7 @@ pub fn serve(operations: &Operations) -> io::Result<()> {
     let mut output = File::from(io::stdout().as_fd().try_clone_to_owned()?);
     let mut piece = vec![0; READ];
     let mut unfinished = Vec::new();
+    let mut counts = TrueCounts::default();
     let mut answers = Vec::new();
     loop {
         let count = input.read(&mut piece)?;
@@ -30,7 +32,7 @@ pub fn serve(operations: &Operations) -> io::Result<()> {
             return output.write_all(&answers);
         }
         unfinished.extend_from_slice(&piece[..count]);
-        let left = service::answer_frames(&unfinished, operations, &mut answers).len();
+        let left = service::answer_frames(&unfinished, operations, &mut counts, &mut answers).len();
         unfinished.drain(..unfinished.len() - left);
         output.write_all(&answers)?;
         answers.clear();

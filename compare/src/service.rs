@@ -1,14 +1,17 @@
-//! The framed service, written from document 01 and request A.3 alone, over the machine's fma and the Rust exp2m1, or others in their
-//! place.
+//! The framed service, written from document 01 and requests A.3 and A.6 alone, over the machine's fma and the Rust exp2m1, or others in
+//! their place.
 
-use ffi::Direction;
+use std::iter;
 
+use ffi::{Counts, Direction};
+
+use crate::counts::TrueCounts;
 use crate::{machine, rust};
 
 /// The longest body that is answered.
 pub const LONGEST_BODY: usize = 514;
 
-/// The bytes of one float in a frame.
+/// The bytes of one float in a frame, and of a report's number.
 pub const FLOAT: usize = 8;
 
 /// How the items of a frame are computed.
@@ -24,10 +27,11 @@ pub const REFERENCE: Operations = Operations {
     fused_in: machine::fused_in,
 };
 
-/// The answers to a whole stream and its end.
+/// The answers of a fresh service to a whole stream and its end.
 pub fn answers(stream: &[u8]) -> Vec<u8> {
+    let mut counts = TrueCounts::default();
     let mut output = Vec::new();
-    let end = answer_frames(stream, &REFERENCE, &mut output);
+    let end = answer_frames(stream, &REFERENCE, &mut counts, &mut output);
     answer_end(end, &mut output);
     output
 }
@@ -36,19 +40,25 @@ pub fn answers(stream: &[u8]) -> Vec<u8> {
 pub fn answer_frames<'a>(
     stream: &'a [u8],
     operations: &Operations,
+    counts: &mut TrueCounts,
     output: &mut Vec<u8>,
 ) -> &'a [u8] {
     let mut rest = stream;
     while let Some((body, next)) = first_frame(rest) {
-        answer(body, operations, output);
+        answer(body, operations, counts, output);
         rest = next;
     }
     rest
 }
 
-/// Writes the answer to a whole frame with this body, and returns the refusal's number or 0.
-pub fn answer(body: &[u8], operations: &Operations, output: &mut Vec<u8>) -> u8 {
-    match results(body, operations) {
+/// Writes the answer to a whole frame with this body, counts it, and returns the refusal's number or 0.
+pub fn answer(
+    body: &[u8],
+    operations: &Operations,
+    counts: &mut TrueCounts,
+    output: &mut Vec<u8>,
+) -> u8 {
+    let number = match results(body, operations, counts) {
         Ok(results) => {
             write_answer(&results, output);
             0
@@ -57,7 +67,9 @@ pub fn answer(body: &[u8], operations: &Operations, output: &mut Vec<u8>) -> u8 
             write_refusal(number, output);
             number
         }
-    }
+    };
+    counts.count(number);
+    number
 }
 
 /// Writes the answer to the end of a stream after an unfinished frame.
@@ -73,8 +85,17 @@ pub fn first_frame(stream: &[u8]) -> Option<(&[u8], &[u8])> {
     rest.split_at_checked(usize::from(u16::from_be_bytes(*length)))
 }
 
-/// The results of a body's items, or the number of the refusal.
-fn results(body: &[u8], operations: &Operations) -> Result<Vec<u64>, u8> {
+/// The bodies of the whole frames of a stream.
+pub fn bodies(mut stream: &[u8]) -> impl Iterator<Item = &[u8]> {
+    iter::from_fn(move || {
+        let (body, rest) = first_frame(stream)?;
+        stream = rest;
+        Some(body)
+    })
+}
+
+/// The results of a body's items, or the numbers of a report after so many frames; or the number of the refusal.
+fn results(body: &[u8], operations: &Operations, counts: &TrueCounts) -> Result<Vec<u64>, u8> {
     let [version, kind, payload @ ..] = body else {
         return Err(1);
     };
@@ -95,8 +116,21 @@ fn results(body: &[u8], operations: &Operations) -> Result<Vec<u64>, u8> {
                 (operations.fused_in)(direction, a, b, c)
             })
         }
+        4 => report(payload, counts),
         _ => Err(4),
     }
+}
+
+fn report(payload: &[u8], counts: &TrueCounts) -> Result<Vec<u64>, u8> {
+    if !payload.is_empty() {
+        return Err(5);
+    }
+    let Counts {
+        accepted,
+        refused,
+        total,
+    } = counts.shown();
+    Ok(vec![accepted, refused, total])
 }
 
 /// The results of items of so many floats, or 5 where there is none, or a part of one.

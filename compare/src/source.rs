@@ -14,7 +14,7 @@ pub struct Source {
 }
 
 impl Source {
-    /// The rest of a frame, and then frames; in a quarter of the lists random bytes, zeros, or short lengths alone.
+    /// The rest of a frame, and then frames; in a third of the lists random bytes, zeros, short lengths or reports alone.
     pub fn new(rest: Vec<u8>, random: &mut Random) -> Self {
         Source {
             waiting: rest,
@@ -22,6 +22,7 @@ impl Source {
                 0 => |random| random.word().to_be_bytes().to_vec(),
                 1 => |_| vec![0; 8],
                 2 => |random| vec![0, random.below(4) as u8],
+                3 => frames::report,
                 _ => frames::any,
             },
         }

@@ -38,39 +38,73 @@ const FEEDINGS: [Feeding; 3] = [
     },
 ];
 
-/// Runs so many thousand random frames in each way of feeding; false where an answer differs.
+/// Runs so many thousand random frames in each way of feeding; false where an answer differs, or a report has other numbers than the counts
+/// over the answers before it.
 pub fn compare(thousands: u64) -> bool {
     if rust::INSTANCES.is_empty() {
         println!("streams: not compared, the Rust source was not there");
         return true;
     }
     let mut random = Random::new(5);
-    let mut mismatches = 0;
+    let mut good = true;
     for feeding in FEEDINGS {
-        let streams = thousands * 1000 / FRAMES;
-        let mut different = 0;
-        for number in 0..streams {
-            let stream = stream(&mut random);
-            match answers(&stream, &feeding, &mut random) {
-                Ok(got) if got == service::answers(&stream) => {}
-                Ok(_) => {
-                    println!("{}: stream {number} is answered differently", feeding.name);
-                    different += 1;
-                }
-                Err(error) => {
-                    println!("{PROGRAM}: {error}");
-                    return false;
-                }
+        match run(&feeding, thousands * 1000 / FRAMES, &mut random) {
+            Ok(alike) => good &= alike,
+            Err(error) => {
+                println!("{PROGRAM}: {error}");
+                return false;
             }
         }
-        println!(
-            "{}: {} frames, {different} streams of {streams} differ",
-            feeding.name,
-            streams * FRAMES
-        );
-        mismatches += different;
     }
-    mismatches == 0
+    good
+}
+
+fn run(feeding: &Feeding, streams: u64, random: &mut Random) -> io::Result<bool> {
+    let name = feeding.name;
+    let (mut different, mut miscounted, mut reports) = (0, 0, 0);
+    for number in 0..streams {
+        let stream = stream(random);
+        let got = answers(&stream, feeding, random)?;
+        if got != service::answers(&stream) {
+            println!("{name}: stream {number} is answered differently");
+            different += 1;
+        }
+        match count_reports(&stream, &got) {
+            Some(count) => reports += count,
+            None => {
+                println!("{name}: stream {number} has a report that is not the counts before it");
+                miscounted += 1;
+            }
+        }
+    }
+    let frames = streams * FRAMES;
+    println!("{name}: {frames} frames, {different} streams of {streams} differ");
+    println!("{name}: {reports} reports, {miscounted} streams of {streams} have a wrong one");
+    Ok(different == 0 && miscounted == 0)
+}
+
+/// How many reports a stream has, where the numbers of each are the counts over the answers before it, by their codes alone.
+fn count_reports(stream: &[u8], answers: &[u8]) -> Option<u64> {
+    let (mut accepted, mut refused) = (0_u64, 0_u64);
+    let mut reports = 0;
+    for (body, answer) in service::bodies(stream).zip(service::bodies(answers)) {
+        let [_, code, results @ ..] = answer else {
+            return None;
+        };
+        if *body == [1, 4] {
+            let numbers = [accepted, refused, accepted + refused];
+            if *results != *numbers.map(u64::to_be_bytes).as_flattened() {
+                return None;
+            }
+            reports += 1;
+        }
+        match code {
+            0 => accepted += 1,
+            1..=5 | 11 => refused += 1,
+            _ => return None,
+        }
+    }
+    Some(reports)
 }
 
 /// What the program answers.

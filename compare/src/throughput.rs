@@ -33,7 +33,7 @@ struct Kind {
     next: fn(&mut Random) -> Vec<u8>,
 }
 
-const KINDS: [Kind; 8] = [
+const KINDS: [Kind; 9] = [
     Kind {
         name: "scores, 64 to a frame",
         next: |random| scores(random, 64, any_weight),
@@ -65,6 +65,10 @@ const KINDS: [Kind; 8] = [
     Kind {
         name: "refused frames",
         next: refused,
+    },
+    Kind {
+        name: "reports",
+        next: |_| of_floats(&[1, 4], &[]).repeat(128),
     },
 ];
 
@@ -249,6 +253,6 @@ fn triples(random: &mut Random, front: &[u8]) -> Vec<u8> {
 
 /// A frame of one weight with another version or kind, or of kind 2.
 fn refused(random: &mut Random) -> Vec<u8> {
-    let front = random.pick(&[[2, 1], [1, 4], [1, 2]]);
+    let front = random.pick(&[[2, 1], [1, 0], [1, 2]]);
     of_floats(&front, &[random.word()])
 }

@@ -96,11 +96,13 @@ static void frame_by_frame(void)
     }
     weigher_closed closed = weigher_close(state, answer, sizeof answer);
     show_answer("weigher_close", 0, closed.len, closed.refusal, answer);
+    weigher_counts counts = closed.state.counts;
+    printf("accepted %" PRIu64 ", refused %" PRIu64 ", total %" PRIu64 "\n", counts.accepted, counts.refused, counts.total);
 }
 
 static void whole_piece(void)
 {
-    uint8_t answers[2 * sizeof stream + 2 * WEIGHER_ANSWER_ROOM];
+    uint8_t answers[7 * sizeof stream + 2 * WEIGHER_ANSWER_ROOM];
     weigher_handed_on handed = weigher_hand_on(weigher_fresh(), stream, sizeof stream, answers, sizeof answers);
     show_answer("weigher_hand_on", handed.used, handed.len, handed.refusal, answers);
 }

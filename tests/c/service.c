@@ -1,6 +1,6 @@
 /* The calls that take bytes across the C interface: the layout of their structs, every byte of a state passed and returned, refused calls,
  * buffers that end where memory does, and NULL for what is empty; the texts of constants; the directions of sums, in calls and in frames;
- * and lists of exceptions. Says which check failed, and then ends with status 1. */
+ * the counts of frames and reports of them; and lists of exceptions. Says which check failed, and then ends with status 1. */
 #define _DEFAULT_SOURCE
 #include <stddef.h>
 #include <stdint.h>
@@ -23,18 +23,24 @@ LAYOUT(offsetof(weigher_frame, count) == 0);
 LAYOUT(offsetof(weigher_frame, hi) == 8);
 LAYOUT(offsetof(weigher_frame, lo) == 9);
 LAYOUT(offsetof(weigher_frame, body) == 10);
-LAYOUT(sizeof(weigher_state) == 528);
-LAYOUT(sizeof(weigher_taken) == 552);
-LAYOUT(offsetof(weigher_taken, used) == 528);
-LAYOUT(offsetof(weigher_taken, len) == 536);
-LAYOUT(offsetof(weigher_taken, refusal) == 544);
-LAYOUT(sizeof(weigher_closed) == 544);
-LAYOUT(offsetof(weigher_closed, len) == 528);
-LAYOUT(offsetof(weigher_closed, refusal) == 536);
-LAYOUT(sizeof(weigher_handed_on) == 552);
-LAYOUT(offsetof(weigher_handed_on, used) == 528);
-LAYOUT(offsetof(weigher_handed_on, len) == 536);
-LAYOUT(offsetof(weigher_handed_on, refusal) == 544);
+LAYOUT(sizeof(weigher_counts) == 24);
+LAYOUT(offsetof(weigher_counts, accepted) == 0);
+LAYOUT(offsetof(weigher_counts, refused) == 8);
+LAYOUT(offsetof(weigher_counts, total) == 16);
+LAYOUT(sizeof(weigher_state) == 552);
+LAYOUT(offsetof(weigher_state, frame) == 0);
+LAYOUT(offsetof(weigher_state, counts) == 528);
+LAYOUT(sizeof(weigher_taken) == 576);
+LAYOUT(offsetof(weigher_taken, used) == 552);
+LAYOUT(offsetof(weigher_taken, len) == 560);
+LAYOUT(offsetof(weigher_taken, refusal) == 568);
+LAYOUT(sizeof(weigher_closed) == 568);
+LAYOUT(offsetof(weigher_closed, len) == 552);
+LAYOUT(offsetof(weigher_closed, refusal) == 560);
+LAYOUT(sizeof(weigher_handed_on) == 576);
+LAYOUT(offsetof(weigher_handed_on, used) == 552);
+LAYOUT(offsetof(weigher_handed_on, len) == 560);
+LAYOUT(offsetof(weigher_handed_on, refusal) == 568);
 LAYOUT(sizeof(weigher_screened) == 16);
 LAYOUT(offsetof(weigher_screened, number) == 8);
 LAYOUT(sizeof(weigher_entry) == 24);
@@ -55,7 +61,20 @@ static void check_at(int line, int holds, const char *fact)
 static int same(weigher_state a, weigher_state b)
 {
     return a.frame.count == b.frame.count && a.frame.hi == b.frame.hi && a.frame.lo == b.frame.lo
-        && memcmp(a.frame.body, b.frame.body, sizeof a.frame.body) == 0;
+        && memcmp(a.frame.body, b.frame.body, sizeof a.frame.body) == 0 && memcmp(&a.counts, &b.counts, sizeof a.counts) == 0;
+}
+
+static weigher_state with_counts(weigher_state state, weigher_counts counts)
+{
+    state.counts = counts;
+    return state;
+}
+
+/* The state behind so many frames: fresh but for the counts. */
+static weigher_state after(uint64_t accepted, uint64_t refused)
+{
+    const weigher_counts counts = {accepted, refused, accepted + refused};
+    return with_counts(weigher_fresh(), counts);
 }
 
 /* n bytes of 0xee, with memory that is neither to be read nor written right behind them. */
@@ -102,6 +121,9 @@ static void check_refusals(void)
     counted.frame.lo = 0x5a;
     for (size_t i = 0; i < sizeof counted.frame.body; i++)
         counted.frame.body[i] = (uint8_t)(i * 7 + 1);
+    counted.counts.accepted = 0x1021324354657687;
+    counted.counts.refused = 0x98a9bacbdcedfe0f;
+    counted.counts.total = 0x1e2d3c4b5a697887;
     memset(&ones, 0xff, sizeof ones);
     check_refused(counted, WEIGHER_ANSWER_ROOM, WEIGHER_BAD_STATE);
     check_refused(ones, WEIGHER_ANSWER_ROOM, WEIGHER_BAD_STATE);
@@ -137,7 +159,7 @@ static void check_cut(size_t cut)
     CHECK(memcmp(buffer, unfinished, closed.len) == 0);
     taken = weigher_take(taken.state, piece + cut, sizeof frame - cut, buffer, WEIGHER_ANSWER_ROOM);
     CHECK(taken.used == sizeof frame - cut && taken.len == sizeof scores && taken.refusal == 0);
-    CHECK(same(taken.state, weigher_fresh()) && memcmp(buffer, scores, sizeof scores) == 0);
+    CHECK(same(taken.state, after(1, 0)) && memcmp(buffer, scores, sizeof scores) == 0);
     CHECK(untouched(buffer + sizeof scores, WEIGHER_ANSWER_ROOM - sizeof scores));
 }
 
@@ -151,7 +173,7 @@ static void check_hand_on(void)
     weigher_handed_on handed = weigher_hand_on(weigher_fresh(), piece, 3 * sizeof frame, buffer, room);
     CHECK(handed.used == 2 * sizeof frame && handed.len == 2 * sizeof scores && handed.refusal == 0);
     CHECK(memcmp(buffer, scores, sizeof scores) == 0 && memcmp(buffer + sizeof scores, scores, sizeof scores) == 0);
-    CHECK(same(handed.state, weigher_fresh()) && untouched(buffer + handed.len, room - handed.len));
+    CHECK(same(handed.state, after(2, 0)) && untouched(buffer + handed.len, room - handed.len));
 }
 
 static void check_null(void)
@@ -392,7 +414,7 @@ static void check_sum(const struct sum *sum, uint8_t direction)
     put_directed(piece, direction, operands);
     put_answer(want, sum->in[direction]);
     weigher_taken taken = weigher_take(weigher_fresh(), piece, DIRECTED, buffer, WEIGHER_ANSWER_ROOM);
-    CHECK(taken.used == DIRECTED && taken.len == sizeof want && taken.refusal == 0 && same(taken.state, weigher_fresh()));
+    CHECK(taken.used == DIRECTED && taken.len == sizeof want && taken.refusal == 0 && same(taken.state, after(1, 0)));
     CHECK(memcmp(buffer, want, sizeof want) == 0 && untouched(buffer + sizeof want, WEIGHER_ANSWER_ROOM - sizeof want));
 }
 
@@ -404,7 +426,7 @@ static void check_refused_frame(const uint8_t *bytes, size_t n, unsigned number)
     weigher_taken taken = weigher_take(weigher_fresh(), bytes, n - 1, buffer, sizeof buffer);
     CHECK(taken.used == n - 1 && taken.len == 0 && taken.refusal == 0);
     taken = weigher_take(taken.state, bytes + n - 1, 1, buffer, sizeof buffer);
-    CHECK(taken.used == 1 && taken.len == sizeof want && taken.refusal == number && same(taken.state, weigher_fresh()));
+    CHECK(taken.used == 1 && taken.len == sizeof want && taken.refusal == number && same(taken.state, after(0, 1)));
     CHECK(memcmp(buffer, want, sizeof want) == 0);
 }
 
@@ -453,7 +475,7 @@ static void check_directions_handed_on(void)
     };
     static const uint8_t refusals[] = {0, 2, 1, 11, 0, 2, 1, 11, 0, 2, 1, 5, 0, 2, 1, 5, 0, 2, 1, 3, 0, 2, 1, 4};
     const size_t len = 4 * DIRECTED + sizeof refused, want_len = 4 * DIRECTED_ANSWER + sizeof refusals;
-    const size_t room = 2 * len + 2 * WEIGHER_ANSWER_ROOM;
+    const size_t room = 7 * len + 2 * WEIGHER_ANSWER_ROOM;
     uint8_t *piece = before_end(len), *want = before_end(want_len), *buffer = before_end(room);
     for (size_t i = 0; i < 4; i++) {
         put_directed(piece + i * DIRECTED, (uint8_t)i, sums[0].operands);
@@ -462,7 +484,7 @@ static void check_directions_handed_on(void)
     memcpy(piece + 4 * DIRECTED, refused, sizeof refused);
     memcpy(want + 4 * DIRECTED_ANSWER, refusals, sizeof refusals);
     weigher_handed_on handed = weigher_hand_on(weigher_fresh(), piece, len, buffer, room);
-    CHECK(handed.used == len && handed.len == want_len && handed.refusal == 0 && same(handed.state, weigher_fresh()));
+    CHECK(handed.used == len && handed.len == want_len && handed.refusal == 0 && same(handed.state, after(4, 6)));
     CHECK(memcmp(buffer, want, want_len) == 0 && untouched(buffer + want_len, room - want_len));
 }
 
@@ -478,6 +500,214 @@ static void check_directions(void)
     check_no_directions();
     check_no_triples();
     check_directions_handed_on();
+}
+
+static const uint8_t report[] = {0x00, 0x02, 0x01, 0x04};
+
+enum { REPORT_ANSWER = 28 };
+
+static uint8_t *append(uint8_t *end, const uint8_t *bytes, size_t n)
+{
+    memcpy(end, bytes, n);
+    return end + n;
+}
+
+/* The answer to a report. */
+static uint8_t *append_counts(uint8_t *end, weigher_counts counts)
+{
+    static const uint8_t head[] = {0x00, 0x1a, 0x01, 0x00};
+    memcpy(end, head, sizeof head);
+    put(end + 4, counts.accepted);
+    put(end + 12, counts.refused);
+    put(end + 20, counts.total);
+    return end + REPORT_ANSWER;
+}
+
+#define MOST UINT64_MAX
+#define HALF (UINT64_C(1) << 63)
+
+/* The counts before a frame, and behind one that is accepted or refused. */
+static const struct step {
+    weigher_counts before, accepted, refused;
+} steps[] = {
+    {{0, 0, 0}, {1, 0, 1}, {0, 1, 1}},
+    {{3, 4, 7}, {4, 4, 8}, {3, 5, 8}},
+    {{0x0123456789abcdef, 0x1021324354657687, 0x114477aade114476},
+     {0x0123456789abcdf0, 0x1021324354657687, 0x114477aade114477},
+     {0x0123456789abcdef, 0x1021324354657688, 0x114477aade114477}},
+    /* the total reaches its end */
+    {{MOST - 1, 0, MOST - 1}, {MOST, 0, MOST}, {MOST - 1, 1, MOST}},
+    {{0, MOST - 1, MOST - 1}, {1, MOST - 1, MOST}, {0, MOST, MOST}},
+    {{HALF - 1, HALF - 1, MOST - 1}, {HALF, HALF - 1, MOST}, {HALF - 1, HALF, MOST}},
+    /* it has stopped, and the other two go on */
+    {{HALF, HALF - 1, MOST}, {HALF + 1, HALF - 1, MOST}, {HALF, HALF, MOST}},
+    {{HALF, HALF, MOST}, {HALF + 1, HALF, MOST}, {HALF, HALF + 1, MOST}},
+    {{MOST - 1, 1, MOST}, {MOST, 1, MOST}, {MOST - 1, 2, MOST}},
+    {{MOST - 1, MOST - 1, MOST}, {MOST, MOST - 1, MOST}, {MOST - 1, MOST, MOST}},
+    /* others have stopped too */
+    {{MOST, 0, MOST}, {MOST, 0, MOST}, {MOST, 1, MOST}},
+    {{0, MOST, MOST}, {1, MOST, MOST}, {0, MOST, MOST}},
+    {{MOST, MOST, MOST}, {MOST, MOST, MOST}, {MOST, MOST, MOST}},
+};
+
+/* take and hand_on of a whole frame. */
+static void check_counted(const struct step *step, const uint8_t *bytes, size_t n, const uint8_t *want, size_t want_len)
+{
+    const size_t room = WEIGHER_ANSWER_ROOM;
+    const weigher_state before = with_counts(weigher_fresh(), step->before);
+    const weigher_state behind = with_counts(weigher_fresh(), want[3] == 0 ? step->accepted : step->refused);
+    uint8_t *buffer = before_end(room);
+    weigher_taken taken = weigher_take(before, bytes, n, buffer, room);
+    CHECK(taken.used == n && taken.len == want_len && taken.refusal == want[3] && same(taken.state, behind));
+    CHECK(memcmp(buffer, want, want_len) == 0 && untouched(buffer + want_len, room - want_len));
+    memset(buffer, 0xee, room);
+    weigher_handed_on handed = weigher_hand_on(before, bytes, n, buffer, room);
+    CHECK(handed.used == n && handed.len == want_len && handed.refusal == 0 && same(handed.state, behind));
+    CHECK(memcmp(buffer, want, want_len) == 0 && untouched(buffer + want_len, room - want_len));
+}
+
+/* The part of a frame and the close there change no number. */
+static void check_counts_kept(const struct step *step, size_t cut)
+{
+    uint8_t buffer[WEIGHER_ANSWER_ROOM];
+    const weigher_state fresh = with_counts(weigher_fresh(), step->before), state = with_counts(state_of(cut), step->before);
+    CHECK(same(weigher_take(fresh, frame, cut, buffer, sizeof buffer).state, state));
+    CHECK(same(weigher_hand_on(fresh, frame, cut, buffer, sizeof buffer).state, state));
+    weigher_closed closed = weigher_close(state, buffer, sizeof buffer);
+    CHECK(closed.refusal == (cut == 0 ? 0 : WEIGHER_UNFINISHED) && same(closed.state, fresh));
+    weigher_taken taken = weigher_take(state, frame + cut, sizeof frame - cut, buffer, sizeof buffer);
+    CHECK(taken.len == sizeof scores && same(taken.state, with_counts(weigher_fresh(), step->accepted)));
+    check_refused(state, WEIGHER_ANSWER_ROOM - 1, WEIGHER_SMALL_BUFFER);
+}
+
+static void check_step(const struct step *step)
+{
+    static const uint8_t no_body[] = {0x00, 0x00}, by_1[] = {0x00, 0x02, 0x01, 0x01};
+    static const uint8_t with_payload[] = {0x00, 0x03, 0x01, 0x04, 0x00}, by_5[] = {0x00, 0x02, 0x01, 0x05};
+    uint8_t numbers[REPORT_ANSWER];
+    append_counts(numbers, step->before);
+    check_counted(step, frame, sizeof frame, scores, sizeof scores);
+    check_counted(step, report, sizeof report, numbers, sizeof numbers);
+    check_counted(step, no_body, sizeof no_body, by_1, sizeof by_1);
+    check_counted(step, with_payload, sizeof with_payload, by_5, sizeof by_5);
+    for (size_t cut = 0; cut < sizeof frame; cut++)
+        check_counts_kept(step, cut);
+}
+
+/* One off, 0, wrapped, and stopped too early; before a frame and at each place inside one. */
+static void check_wrong_totals(void)
+{
+    static const weigher_counts wrong[] = {
+        {0, 0, 1}, {0, 0, MOST}, {1, 0, 0}, {0, 1, 0}, {3, 4, 0}, {3, 4, 6}, {3, 4, 8}, {3, 4, MOST},
+        {MOST - 1, 0, 0}, {MOST - 1, 0, MOST}, {MOST, 0, 0}, {MOST, 0, MOST - 1}, {0, MOST, 0}, {0, MOST, MOST - 1},
+        {MOST, 1, 0}, {MOST, 1, MOST - 1}, {MOST, MOST, 0}, {MOST, MOST, MOST - 1}, {HALF, HALF, 0}, {HALF, HALF, MOST - 1},
+        {HALF, HALF - 1, 0}, {HALF, HALF - 1, MOST - 1}, {HALF - 1, HALF - 1, 0}, {HALF - 1, HALF - 1, MOST},
+    };
+    for (size_t i = 0; i < sizeof wrong / sizeof wrong[0]; i++)
+        for (size_t cut = 0; cut < sizeof frame; cut++) {
+            check_refused(with_counts(state_of(cut), wrong[i]), WEIGHER_ANSWER_ROOM, WEIGHER_BAD_STATE);
+            check_refused(with_counts(state_of(cut), wrong[i]), WEIGHER_ANSWER_ROOM - 1, WEIGHER_SMALL_BUFFER);
+        }
+}
+
+/* A right total does not make up for a frame that no bytes leave. */
+static void check_wrong_frames(void)
+{
+    for (size_t i = 0; i < sizeof steps / sizeof steps[0]; i++) {
+        weigher_state state = with_counts(state_of(5), steps[i].before);
+        state.frame.body[3] = 1;
+        check_refused(state, WEIGHER_ANSWER_ROOM, WEIGHER_BAD_STATE);
+    }
+}
+
+/* A payload of each length, one that is too long, and another version. */
+static void check_refused_reports(void)
+{
+    static uint8_t bytes[2 + WEIGHER_LONGEST_BODY + 1] = {0x00, 0x00, 0x01, 0x04};
+    for (size_t body = 3; body <= WEIGHER_LONGEST_BODY + 1; body++) {
+        bytes[0] = (uint8_t)(body >> 8);
+        bytes[1] = (uint8_t)body;
+        check_refused_frame(bytes, 2 + body, body > WEIGHER_LONGEST_BODY ? WEIGHER_LONG_BODY : WEIGHER_BAD_PAYLOAD);
+    }
+    static const uint8_t version_2[] = {0x00, 0x02, 0x02, 0x04};
+    check_refused_frame(version_2, sizeof version_2, WEIGHER_BAD_VERSION);
+}
+
+/* Every refusal is counted but 8; a report counts what was before it. */
+static void check_reports_handed_on(void)
+{
+    static const uint8_t refused[] = {
+        0x00, 0x00,                   /* 1 */
+        0x00, 0x02, 0x02, 0x04,       /* 3 */
+        0x00, 0x02, 0x01, 0xff,       /* 4 */
+        0x00, 0x03, 0x01, 0x03, 0x04, /* 11 */
+        0x00, 0x03, 0x01, 0x04, 0x00, /* 5 */
+        0x02, 0x03,                   /* 2, with 515 bytes of 0 */
+    };
+    static const uint8_t refusals[] = {0, 2, 1, 1, 0, 2, 1, 3, 0, 2, 1, 4, 0, 2, 1, 11, 0, 2, 1, 5, 0, 2, 1, 2};
+    uint8_t piece[sizeof report + sizeof frame + sizeof refused + 515 + 2 * sizeof report + 1] = {0};
+    uint8_t want[3 * REPORT_ANSWER + sizeof scores + sizeof refusals], buffer[7 * sizeof piece + 2 * WEIGHER_ANSWER_ROOM];
+    uint8_t *end = append(piece, report, sizeof report);
+    end = append(end, frame, sizeof frame);
+    end = append(end, refused, sizeof refused) + 515;
+    end = append(end, report, sizeof report);
+    append(end, report, sizeof report);
+    end = append_counts(want, after(0, 0).counts);
+    end = append(end, scores, sizeof scores);
+    end = append(end, refusals, sizeof refusals);
+    end = append_counts(end, after(2, 6).counts);
+    append_counts(end, after(3, 6).counts);
+    weigher_handed_on handed = weigher_hand_on(weigher_fresh(), piece, sizeof piece, buffer, sizeof buffer);
+    CHECK(handed.used == sizeof piece && handed.len == sizeof want && handed.refusal == 0);
+    CHECK(memcmp(buffer, want, sizeof want) == 0 && same(handed.state, with_counts(state_of(1), after(4, 6).counts)));
+    weigher_closed closed = weigher_close(handed.state, buffer, sizeof buffer);
+    CHECK(closed.refusal == WEIGHER_UNFINISHED && same(closed.state, after(4, 6)));
+}
+
+/* The room that weigher.h names is enough for the longest answers: that to a frame whose last byte alone is in the piece, and reports. */
+static void check_room(void)
+{
+    const size_t reports = 1000, len = 1 + reports * sizeof report, room = 7 * len + 2 * WEIGHER_ANSWER_ROOM;
+    static const uint8_t zeros[2 + WEIGHER_LONGEST_BODY] = {0x02, 0x02, 0x01, 0x01};
+    uint8_t *piece = before_end(len), *buffer = before_end(room), want[REPORT_ANSWER];
+    weigher_taken taken = weigher_take(weigher_fresh(), zeros, sizeof zeros - 1, buffer, room);
+    piece[0] = 0;
+    for (size_t i = 0; i < reports; i++)
+        memcpy(piece + 1 + i * sizeof report, report, sizeof report);
+    weigher_handed_on handed = weigher_hand_on(taken.state, piece, len, buffer, room);
+    CHECK(handed.used == len && handed.len == WEIGHER_ANSWER_ROOM + reports * sizeof want && handed.refusal == 0);
+    CHECK(same(handed.state, after(1 + reports, 0)));
+    for (size_t i = 0; i < reports; i++) {
+        append_counts(want, after(1 + i, 0).counts);
+        CHECK(memcmp(buffer + WEIGHER_ANSWER_ROOM + i * sizeof want, want, sizeof want) == 0);
+    }
+    CHECK(untouched(buffer + handed.len, room - handed.len));
+}
+
+/* Four reports and a refused frame before the third, from two below the end on: accepted and the total stop, and refused goes on. */
+static void check_stop(void)
+{
+    static const uint8_t piece[] = {0, 2, 1, 4, 0, 2, 1, 4, 0, 0, 0, 2, 1, 4, 0, 2, 1, 4}, by_1[] = {0, 2, 1, 1};
+    static const weigher_counts counts[] = {{MOST - 2, 0, MOST - 2}, {MOST - 1, 0, MOST - 1}, {MOST, 1, MOST}};
+    uint8_t buffer[7 * sizeof piece + 2 * WEIGHER_ANSWER_ROOM], want[4 * REPORT_ANSWER + sizeof by_1];
+    uint8_t *end = append_counts(append_counts(want, counts[0]), counts[1]);
+    end = append(end, by_1, sizeof by_1);
+    append_counts(append_counts(end, counts[2]), counts[2]);
+    weigher_handed_on handed = weigher_hand_on(with_counts(weigher_fresh(), counts[0]), piece, sizeof piece, buffer, sizeof buffer);
+    CHECK(handed.used == sizeof piece && handed.len == sizeof want && memcmp(buffer, want, sizeof want) == 0);
+    CHECK(same(handed.state, with_counts(weigher_fresh(), counts[2])));
+}
+
+static void check_reports(void)
+{
+    for (size_t i = 0; i < sizeof steps / sizeof steps[0]; i++)
+        check_step(&steps[i]);
+    check_wrong_totals();
+    check_wrong_frames();
+    check_refused_reports();
+    check_reports_handed_on();
+    check_room();
+    check_stop();
 }
 
 static weigher_entry entry_of(uint64_t x, uint64_t hi, uint64_t lo)
@@ -720,6 +950,7 @@ int main(void)
     check_screening();
     check_constants();
     check_directions();
+    check_reports();
     check_lists();
     return 0;
 }

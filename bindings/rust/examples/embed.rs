@@ -44,12 +44,13 @@ const FIRST: &[u8] = &[
     0, 10, 1, 1,
 ];
 
-/// A body of no bytes, a kind that is not there, and 2 × 3 + 1.
+/// A body of no bytes, a kind that is not there, 2 × 3 + 1, and a report: one frame was accepted, and two refused.
 #[rustfmt::skip]
 const SECOND: &[u8] = &[
     0, 0,
     0, 2, 1, 7,
     0, 26, 1, 2, 0x40, 0, 0, 0, 0, 0, 0, 0, 0x40, 8, 0, 0, 0, 0, 0, 0, 0x3f, 0xf0, 0, 0, 0, 0, 0, 0,
+    0, 2, 1, 4,
 ];
 
 fn main() {

@@ -1,7 +1,7 @@
-use crate::Refusal;
+use crate::{Counts, Refusal};
 use std::iter::FusedIterator;
 
-/// The answer to a frame, or to an unfinished one at a stream's end: a result for each item, or a refusal.
+/// The answer to a frame, or to an unfinished one at a stream's end: a result for each item, a report's counts, or a refusal.
 ///
 /// ```
 /// let mut stream = weigher::Stream::new();
@@ -35,7 +35,8 @@ impl<'a> Answer<'a> {
         Refusal::from_number(self.bytes[HEAD - 1])
     }
 
-    /// The results in the items' order: scores for kind 1, a × b + c for kinds 2 and 3.
+    /// The results in the items' order: scores for kind 1, a × b + c for kinds 2 and 3. The numbers of a report are no floats:
+    /// [`Answer::report`] has them.
     pub fn results(self) -> Result<impl ExactSizeIterator<Item = f64> + Clone, Refusal> {
         Ok(self.patterns()?.map(f64::from_bits))
     }
@@ -46,6 +47,20 @@ impl<'a> Answer<'a> {
             Some(refusal) => Err(refusal),
             None => Ok(self.bytes[HEAD..].chunks_exact(8).map(pattern)),
         }
+    }
+
+    /// The counts in the answer to a [`REPORT`](crate::REPORT). An answer does not say which kind its frame had: the answer to three
+    /// weights or three triples is read as counts too. None where it has not three results.
+    pub fn report(self) -> Option<Counts> {
+        let mut numbers = self.patterns().ok()?;
+        if numbers.len() != 3 {
+            return None;
+        }
+        Some(Counts {
+            accepted: numbers.next()?,
+            refused: numbers.next()?,
+            total: numbers.next()?,
+        })
     }
 }
 

@@ -38,10 +38,10 @@ pub const CLEAN: u8 = 1;
 pub const MISSING: u8 = 2;
 
 // As tests/c/service.c has it for C.
-const _: () = assert!(size_of::<State>() == 528);
-const _: () = assert!(size_of::<Taken>() == 552 && offset_of!(Taken, refusal) == 544);
-const _: () = assert!(size_of::<Closed>() == 544 && offset_of!(Closed, refusal) == 536);
-const _: () = assert!(size_of::<HandedOn>() == 552 && offset_of!(HandedOn, refusal) == 544);
+const _: () = assert!(size_of::<State>() == 552 && offset_of!(State, counts) == 528);
+const _: () = assert!(size_of::<Taken>() == 576 && offset_of!(Taken, refusal) == 568);
+const _: () = assert!(size_of::<Closed>() == 568 && offset_of!(Closed, refusal) == 560);
+const _: () = assert!(size_of::<HandedOn>() == 576 && offset_of!(HandedOn, refusal) == 568);
 const _: () = assert!(size_of::<Screened>() == 16 && offset_of!(Screened, number) == 8);
 const _: () = assert!(size_of::<Entry>() == 24 && offset_of!(Entry, lo) == 16);
 

@@ -15,7 +15,9 @@ pub use direction::Direction;
 pub use entry::{Entry, LONGEST_LIST};
 pub use payload::{Screening, payload, screening};
 pub use refusal::Refusal;
-pub use service::{ANSWER_ROOM, HandedOn, LONGEST_BODY, PartialFrame, State, Taken};
+pub use service::{
+    ANSWER_ROOM, Counts, HandedOn, LONGEST_BODY, PartialFrame, REPORT, State, Taken,
+};
 pub use stream::{Stream, serve};
 
 /// 2^x - 1, the score of the weight x.

@@ -8,7 +8,7 @@ use std::fmt;
 /// assert_eq!(Refusal::BadKind.number(), 4);
 /// assert_eq!(Refusal::from_number(4), Some(Refusal::BadKind));
 /// assert_eq!(Refusal::from_number(0), None);
-/// assert_eq!(Refusal::BadKind.to_string(), "the kind is not 1, 2 or 3");
+/// assert_eq!(Refusal::BadKind.to_string(), "the kind is not one of 1 to 4");
 /// ```
 #[derive(Clone, Copy, Debug, PartialEq, Eq, Hash)]
 #[repr(u8)]
@@ -19,9 +19,9 @@ pub enum Refusal {
     LongBody = 2,
     /// A frame's version is not 1.
     BadVersion = 3,
-    /// A frame's kind is not 1, 2 or 3.
+    /// A frame's kind is not one of 1 to 4.
     BadKind = 4,
-    /// A payload has no items, or a part of one.
+    /// A payload has no items, or a part of one, or is a report's and not empty.
     BadPayload = 5,
     /// A call's buffer has under [`ANSWER_ROOM`](crate::ANSWER_ROOM) bytes.
     SmallBuffer = 6,
@@ -74,8 +74,10 @@ impl fmt::Display for Refusal {
             Refusal::ShortBody => "the body has under 2 bytes",
             Refusal::LongBody => "the body has over 514 bytes",
             Refusal::BadVersion => "the version is not 1",
-            Refusal::BadKind => "the kind is not 1, 2 or 3",
-            Refusal::BadPayload => "the payload has no items, or a part of one",
+            Refusal::BadKind => "the kind is not one of 1 to 4",
+            Refusal::BadPayload => {
+                "the payload has no items, or a part of one, or is a report's and not empty"
+            }
             Refusal::SmallBuffer => "the buffer has under 516 bytes",
             Refusal::BadState => "the state is one that no bytes leave",
             Refusal::Unfinished => "the stream ended inside a frame",

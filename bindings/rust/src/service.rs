@@ -6,6 +6,21 @@ pub const LONGEST_BODY: usize = 514;
 /// The bytes of a buffer that every answer fits into.
 pub const ANSWER_ROOM: usize = 516;
 
+/// The frame of kind 4, which asks for a report: how many frames were accepted and refused. [`Answer::report`] reads its answer.
+///
+/// ```
+/// use weigher::{REPORT, Stream};
+/// let mut stream = Stream::new();
+/// stream.feed(&[0, 0]); // a body of no bytes, which is refused
+/// let answer = stream.feed(&REPORT).next().expect("a whole frame has an answer");
+/// let counts = answer.report().expect("the answer to a report");
+/// assert_eq!((counts.accepted, counts.refused, counts.total), (0, 1, 1));
+/// assert_eq!(stream.counts().accepted, 1); // the report itself
+/// ```
+///
+/// A frame of kind 4 with a payload is refused by [`Refusal::BadPayload`].
+pub const REPORT: [u8; 4] = [0, 2, 1, 4];
+
 /// What has come of the present frame.
 #[derive(Clone, Copy, Debug, PartialEq, Eq, Hash)]
 #[repr(C)]
@@ -18,6 +33,25 @@ pub struct PartialFrame {
     pub lo: u8,
     /// The body so far. Places that are not filled hold 0; a body of under 2 or over [`LONGEST_BODY`] bytes fills none.
     pub body: [u8; LONGEST_BODY],
+}
+
+/// The frames that ended since [`State::fresh`], each number stopped at `u64::MAX`.
+///
+/// Close keeps them, and its answer [`Refusal::Unfinished`] is not counted; calls that are refused leave them as they are. A state whose
+/// total is not the sum of the other two, stopped at `u64::MAX`, is refused by [`Refusal::BadState`]; apart from that the numbers decide
+/// nothing.
+///
+/// In the answer to a [`REPORT`] they are those of the frames that ended before it. It does not count itself; later ones count it as
+/// accepted.
+#[derive(Clone, Copy, Debug, PartialEq, Eq, Hash)]
+#[repr(C)]
+pub struct Counts {
+    /// Frames that were answered and not refused.
+    pub accepted: u64,
+    /// Frames that were refused by 1 to 5 or 11.
+    pub refused: u64,
+    /// Both.
+    pub total: u64,
 }
 
 /// All that the service knows of a stream between calls.
@@ -37,19 +71,22 @@ pub struct PartialFrame {
 /// let taken = state.take(&[0x4b, 0, 0, 0, 0, 0, 0, 0], &mut buffer)?;
 /// assert_eq!(taken.used, 7);
 /// assert_eq!(taken.answer.unwrap().patterns()?.next(), Some(0xbff0000000000000));
-/// assert_eq!(state, State::fresh());
+/// assert_eq!(state.frame, State::fresh().frame);
+/// assert_eq!(state.counts.accepted, 1);
 ///
 /// // The byte that was left, and the end of the stream.
 /// state.take(&[0], &mut buffer)?;
 /// let answer = state.close(&mut buffer)?.unwrap();
 /// assert_eq!(answer.refusal(), Some(Refusal::Unfinished));
 /// assert_eq!(answer.bytes(), [0, 2, 1, 8]);
+/// assert_eq!((state.counts.accepted, state.counts.refused), (1, 0));
 /// # Ok::<(), Refusal>(())
 /// ```
 #[derive(Clone, Copy, Debug, PartialEq, Eq, Hash)]
 #[repr(C)]
 pub struct State {
     pub frame: PartialFrame,
+    pub counts: Counts,
 }
 
 /// What [`State::take`] did.
@@ -86,7 +123,7 @@ fn answer(buffer: &[u8], len: usize) -> Option<Answer<'_>> {
 /// A call that is refused, by [`Refusal::SmallBuffer`] or else [`Refusal::BadState`], changes neither the state nor the buffer. Behind the
 /// answers the buffer always keeps its content.
 impl State {
-    /// The state before a stream's first byte. Each whole frame leaves it too.
+    /// The state before a stream's first byte, with all counts 0. Each whole frame leaves it too, but for the counts.
     pub fn fresh() -> State {
         ffi::weigher_fresh()
     }
@@ -111,7 +148,7 @@ impl State {
         })
     }
 
-    /// Ends the stream: an unfinished frame is answered by [`Refusal::Unfinished`], and the state is fresh.
+    /// Ends the stream: an unfinished frame is answered by [`Refusal::Unfinished`], and the state is fresh but for the counts.
     pub fn close<'a>(&mut self, buffer: &'a mut [u8]) -> Result<Option<Answer<'a>>, Refusal> {
         // SAFETY: pointer and length are those of a slice.
         let closed = unsafe { ffi::weigher_close(*self, buffer.as_mut_ptr(), buffer.len()) };
@@ -121,8 +158,8 @@ impl State {
     }
 
     /// [`State::take`] on the piece's unused end, again and again, until the piece is used up or the buffer has under [`ANSWER_ROOM`] bytes
-    /// left. So a piece that has a byte is used in part at least. A buffer of `2 * piece.len() + 2 * ANSWER_ROOM` bytes has room for the
-    /// answers to the whole piece.
+    /// left. So a piece that has a byte is used in part at least. A buffer of `7 * piece.len() + 2 * ANSWER_ROOM` bytes has room for the
+    /// answers to the whole piece: that to a [`REPORT`] has 7 times the bytes of its frame.
     ///
     /// ```
     /// use weigher::{ANSWER_ROOM, Refusal, State};

@@ -1,4 +1,4 @@
-use crate::{ANSWER_ROOM, Answer, Answers, State};
+use crate::{ANSWER_ROOM, Answer, Answers, Counts, State};
 use std::io::{self, ErrorKind, Read, Write};
 
 /// A stream that is being answered: it takes pieces of any size and gives the answers to the frames that end in each.
@@ -27,24 +27,37 @@ impl Stream {
         Stream::default()
     }
 
-    /// Takes the whole piece. Twice its length and a little more is kept for answers.
+    /// Takes the whole piece. Seven times its length and a little more is kept for answers.
     pub fn feed(&mut self, piece: &[u8]) -> Answers<'_> {
-        let room = 2 * piece.len() + 2 * ANSWER_ROOM;
+        let room = 7 * piece.len() + 2 * ANSWER_ROOM;
         let handed = self.state.hand_on(piece, space(&mut self.buffer, room));
         handed
             .expect("the buffer is large and the state good")
             .answers
     }
 
-    /// Ends the stream. There is an answer where a frame was unfinished, and the next byte is the first of a new stream.
+    /// Ends the stream. There is an answer where a frame was unfinished, and the next byte is the first of a new stream. The counts go on.
     pub fn close(&mut self) -> Option<Answer<'_>> {
         let closed = self.state.close(space(&mut self.buffer, ANSWER_ROOM));
         closed.expect("the buffer is large and the state good")
     }
 
-    /// What has come of the present frame.
+    /// What has come of the present frame, and the counts.
     pub fn state(&self) -> State {
         self.state
+    }
+
+    /// The frames that ended, of all streams since [`Stream::new`].
+    ///
+    /// ```
+    /// use weigher::{Counts, Stream};
+    /// let mut stream = Stream::new();
+    /// stream.feed(&[0, 10, 1, 1, 0xc0, 0x4b, 0, 0, 0, 0, 0, 0, 0, 0, 0]); // the weight -54, a body of no bytes, and half of a length
+    /// stream.close();
+    /// assert_eq!(stream.counts(), Counts { accepted: 1, refused: 1, total: 2 });
+    /// ```
+    pub fn counts(&self) -> Counts {
+        self.state.counts
     }
 }
 

@@ -1,9 +1,9 @@
-//! The service, payload and screening: document 01's whole case, cut and recorded streams, the three kinds, and refused calls.
+//! The service, payload and screening: document 01's whole case, cut and recorded streams, the four kinds, the counts, and refused calls.
 
 use std::io::{self, Read, Write};
 use weigher::{
-    ANSWER_ROOM, Direction, LONGEST_BODY, PartialFrame, Refusal, Screening, State, Stream,
-    fused_in, payload, screening, serve,
+    ANSWER_ROOM, Counts, Direction, LONGEST_BODY, PartialFrame, REPORT, Refusal, Screening, State,
+    Stream, fused_in, payload, screening, serve,
 };
 
 /// Document 01's whole case: the weight -54, a body of no bytes, and half of a length.
@@ -20,24 +20,46 @@ const RECORDED_ANSWERS: &[u8] = include_bytes!("../../../crates/replay/stdout");
 
 const FILL: u8 = 0xee;
 
+fn counts(accepted: u64, refused: u64, total: u64) -> Counts {
+    Counts {
+        accepted,
+        refused,
+        total,
+    }
+}
+
+/// The fresh state but for its counts.
+fn fresh_with(counts: Counts) -> State {
+    State {
+        counts,
+        ..State::fresh()
+    }
+}
+
+/// The state behind so many frames.
+fn after(accepted: u64, refused: u64) -> State {
+    fresh_with(counts(accepted, refused, accepted + refused))
+}
+
 #[test]
 fn frame_by_frame() -> Result<(), Refusal> {
     let mut state = State::fresh();
     let mut buffer = [FILL; ANSWER_ROOM];
     let mut left = FRAMES;
-    for (answer, used) in ANSWERS[..2].iter().zip([12, 2]) {
+    for (answer, used, refused) in [(ANSWERS[0], 12, 0), (ANSWERS[1], 2, 1)] {
         let taken = state.take(left, &mut buffer)?;
         assert_eq!(taken.used, used);
-        assert_eq!(taken.answer.unwrap().bytes(), *answer);
-        assert_eq!(state, State::fresh());
+        assert_eq!(taken.answer.unwrap().bytes(), answer);
+        assert_eq!(state, after(1, refused));
         left = &left[used..];
     }
     let taken = state.take(left, &mut buffer)?;
     assert_eq!((taken.used, taken.answer), (1, None));
     assert_eq!(state.frame.count, 1);
     assert_eq!(state.close(&mut buffer)?.unwrap().bytes(), ANSWERS[2]);
-    assert_eq!(state, State::fresh());
+    assert_eq!(state, after(1, 1));
     assert_eq!(state.close(&mut buffer)?, None);
+    assert_eq!(state, after(1, 1));
     assert!(buffer[12..].iter().all(|byte| *byte == FILL));
     Ok(())
 }
@@ -69,28 +91,34 @@ fn a_piece_in_part() -> Result<(), Refusal> {
     Ok(())
 }
 
-/// All that a stream answers to pieces, and at its end.
+/// All that a stream answers to pieces, and at its end. Its counts are those of the answers but the last.
 fn answers<'a>(pieces: impl IntoIterator<Item = &'a [u8]>) -> Vec<u8> {
     let mut stream = Stream::new();
     let mut answers = Vec::new();
+    let (mut accepted, mut refused) = (0, 0);
     for piece in pieces {
         for answer in stream.feed(piece) {
             answers.extend_from_slice(answer.bytes());
+            match answer.refusal() {
+                None => accepted += 1,
+                Some(_) => refused += 1,
+            }
         }
     }
     if let Some(answer) = stream.close() {
         answers.extend_from_slice(answer.bytes());
     }
-    assert_eq!(stream.state(), State::fresh());
+    assert_eq!(stream.state(), after(accepted, refused));
     answers
 }
 
-/// A frame with results, one of each refusal of a frame, and an unfinished one.
+/// A frame with results, one of each refusal of a frame, a report, and an unfinished frame.
 fn short_stream() -> Vec<u8> {
     let mut bytes = FRAMES[..14].to_vec();
     bytes.extend([0, 2, 2, 1, 0, 2, 1, 0xff, 0, 3, 1, 2, 0, 0, 3, 1, 3, 4]);
     bytes.extend([2, 3]);
     bytes.extend([0; LONGEST_BODY + 1]);
+    bytes.extend(REPORT);
     bytes.extend(&FRAMES[..11]);
     bytes
 }
@@ -99,8 +127,12 @@ fn short_stream() -> Vec<u8> {
 fn every_cut() {
     let bytes = short_stream();
     let whole = answers([&bytes[..]]);
-    let refusals = [1, 3, 4, 5, 11, 2, 8].map(|number| [0, 2, 1, number]);
-    assert_eq!(whole, [ANSWERS[0], refusals.as_flattened()].concat());
+    let refusals = [1, 3, 4, 5, 11, 2].map(|number| [0, 2, 1, number]);
+    let report = report_answer(counts(1, 6, 7));
+    assert_eq!(
+        whole,
+        [ANSWERS[0], refusals.as_flattened(), &report, ANSWERS[2]].concat()
+    );
     for cut in 0..=bytes.len() {
         let (front, end) = bytes.split_at(cut);
         assert_eq!(answers([front, end]), whole, "{cut}");
@@ -217,7 +249,7 @@ fn kind_3_to_nearest_is_kind_2() {
     }
 }
 
-/// The frame is refused at its last byte, and leaves the fresh state.
+/// The frame is refused at its last byte, and leaves the fresh state but for the counts.
 fn check_refused(frame: &[u8], refusal: Refusal) -> Result<(), Refusal> {
     let mut state = State::fresh();
     let mut buffer = [FILL; ANSWER_ROOM];
@@ -227,7 +259,8 @@ fn check_refused(frame: &[u8], refusal: Refusal) -> Result<(), Refusal> {
     assert_eq!(answer.refusal(), Some(refusal), "{frame:?}");
     assert_eq!(answer.results().err(), Some(refusal));
     assert_eq!(answer.bytes(), [0, 2, 1, refusal.number()]);
-    assert_eq!(state, State::fresh());
+    assert_eq!(answer.report(), None);
+    assert_eq!(state, after(0, 1));
     Ok(())
 }
 
@@ -257,6 +290,236 @@ fn refusals_around_a_direction() -> Result<(), Refusal> {
     check_refused(&[0, 3, 1, 0, 4], Refusal::BadKind)?;
     check_refused(&[0, 3, 1, 1, 4], Refusal::BadPayload)?;
     check_refused(&[0, 3, 1, 2, 4], Refusal::BadPayload)
+}
+
+/// The answer to a report.
+fn report_answer(counts: Counts) -> Vec<u8> {
+    let numbers = [counts.accepted, counts.refused, counts.total];
+    let bytes = numbers.map(u64::to_be_bytes);
+    [&[0, 26, 1, 0], bytes.as_flattened()].concat()
+}
+
+/// The stream's next answer is a report with these counts.
+fn check_report(stream: &mut Stream, accepted: u64, refused: u64) {
+    let expected = counts(accepted, refused, accepted + refused);
+    assert_eq!(stream.counts(), expected);
+    let answer = stream.feed(&REPORT).next().unwrap();
+    assert_eq!(answer.bytes(), report_answer(expected));
+    assert_eq!(answer.report(), Some(expected));
+    assert_eq!(answer.refusal(), None);
+}
+
+#[test]
+fn a_report_counts_what_was_before_it() {
+    let mut stream = Stream::new();
+    check_report(&mut stream, 0, 0);
+    check_report(&mut stream, 1, 0);
+    stream.feed(FRAMES);
+    let unfinished = stream.close().map(|answer| answer.refusal());
+    assert_eq!(unfinished, Some(Some(Refusal::Unfinished)));
+    check_report(&mut stream, 3, 1);
+    assert_eq!(stream.close(), None);
+    stream.feed(&frame_of(4, &[0])); // refused
+    check_report(&mut stream, 4, 2);
+}
+
+#[test]
+fn every_refusal_of_a_frame_is_counted() {
+    let mut stream = Stream::new();
+    stream.feed(&short_stream());
+    stream.close();
+    check_report(&mut stream, 2, 6);
+}
+
+#[test]
+fn refusals_of_kind_4() -> Result<(), Refusal> {
+    for n in 1..=512 {
+        check_refused(&frame_of(4, &vec![0; n]), Refusal::BadPayload)?;
+    }
+    check_refused(&frame_of(4, &[0; 513]), Refusal::LongBody)?;
+    check_refused(&[0, 2, 2, 4], Refusal::BadVersion)
+}
+
+/// An answer does not say which kind it is for.
+#[test]
+fn three_results_are_read_as_a_report() {
+    let mut stream = Stream::new();
+    for n in (1..=64).filter(|n| *n != 3) {
+        let answer = stream.feed(&frame(1, &vec![1.0; n])).next().unwrap();
+        assert_eq!(answer.report(), None, "{n}");
+    }
+    let answer = stream.feed(&frame(1, &[1.0, 2.0, 3.0])).next().unwrap();
+    let [one, three, seven] = [1.0, 3.0, 7.0].map(f64::to_bits);
+    assert_eq!(answer.report(), Some(counts(one, three, seven)));
+}
+
+/// The answers to reports are 7 times as long as their frames. Before them comes the end of a frame with the longest answer.
+#[test]
+fn room_for_reports() -> Result<(), Refusal> {
+    let longest = frame(1, &[0.5; 64]);
+    let (front, end) = longest.split_at(longest.len() - 1);
+    let piece = [end, &REPORT.repeat(1000)].concat();
+    let mut stream = Stream::new();
+    stream.feed(front);
+    let mut state = stream.state();
+    let answers = stream.feed(&piece);
+    assert_eq!(answers.bytes().len(), ANSWER_ROOM + 28_000);
+    for (i, answer) in (0..).zip(answers.clone().skip(1)) {
+        assert_eq!(answer.report(), Some(counts(1 + i, 0, 1 + i)));
+    }
+    let mut buffer = vec![FILL; 7 * piece.len() + 2 * ANSWER_ROOM];
+    let handed = state.hand_on(&piece, &mut buffer)?;
+    assert_eq!(handed.used, piece.len());
+    assert!(handed.answers.bytes() == answers.bytes());
+    assert_eq!(state, after(1001, 0));
+    Ok(())
+}
+
+const MOST: u64 = u64::MAX;
+const HALF: u64 = 1 << 63;
+
+/// The counts before a frame, and behind one that is accepted or refused.
+#[rustfmt::skip]
+const STEPS: [[[u64; 3]; 3]; 13] = [
+    [[0, 0, 0], [1, 0, 1], [0, 1, 1]],
+    [[3, 4, 7], [4, 4, 8], [3, 5, 8]],
+    [
+        [0x0123456789abcdef, 0x1021324354657687, 0x114477aade114476],
+        [0x0123456789abcdf0, 0x1021324354657687, 0x114477aade114477],
+        [0x0123456789abcdef, 0x1021324354657688, 0x114477aade114477],
+    ],
+    // The total reaches its end.
+    [[MOST - 1, 0, MOST - 1], [MOST, 0, MOST], [MOST - 1, 1, MOST]],
+    [[0, MOST - 1, MOST - 1], [1, MOST - 1, MOST], [0, MOST, MOST]],
+    [[HALF - 1, HALF - 1, MOST - 1], [HALF, HALF - 1, MOST], [HALF - 1, HALF, MOST]],
+    // It has stopped, and the other two go on.
+    [[HALF, HALF - 1, MOST], [HALF + 1, HALF - 1, MOST], [HALF, HALF, MOST]],
+    [[HALF, HALF, MOST], [HALF + 1, HALF, MOST], [HALF, HALF + 1, MOST]],
+    [[MOST - 1, 1, MOST], [MOST, 1, MOST], [MOST - 1, 2, MOST]],
+    [[MOST - 1, MOST - 1, MOST], [MOST, MOST - 1, MOST], [MOST - 1, MOST, MOST]],
+    // Others have stopped too.
+    [[MOST, 0, MOST], [MOST, 0, MOST], [MOST, 1, MOST]],
+    [[0, MOST, MOST], [1, MOST, MOST], [0, MOST, MOST]],
+    [[MOST, MOST, MOST], [MOST, MOST, MOST], [MOST, MOST, MOST]],
+];
+
+/// take and hand_on of a whole frame.
+fn check_step(before: Counts, frame: &[u8], answer: &[u8], behind: Counts) -> Result<(), Refusal> {
+    let mut buffer = [FILL; ANSWER_ROOM];
+    let mut state = fresh_with(before);
+    let taken = state.take(frame, &mut buffer)?;
+    assert_eq!(taken.used, frame.len());
+    assert_eq!(taken.answer.unwrap().bytes(), answer);
+    assert_eq!(state, fresh_with(behind));
+    let mut state = fresh_with(before);
+    let handed = state.hand_on(frame, &mut buffer)?;
+    assert_eq!(handed.used, frame.len());
+    assert_eq!(handed.answers.bytes(), answer);
+    assert_eq!(state, fresh_with(behind));
+    Ok(())
+}
+
+#[test]
+fn counts_stop_at_their_end() -> Result<(), Refusal> {
+    for step in STEPS {
+        let [before, accepted, refused] = step.map(|[a, r, t]| counts(a, r, t));
+        check_step(before, &FRAMES[..12], ANSWERS[0], accepted)?;
+        check_step(before, &REPORT, &report_answer(before), accepted)?;
+        check_step(before, &FRAMES[12..14], ANSWERS[1], refused)?;
+        check_step(before, &[0, 3, 1, 4, 0], &[0, 2, 1, 5], refused)?;
+    }
+    Ok(())
+}
+
+/// The part of a frame, the close there and a refused call change no number.
+#[test]
+fn counts_that_are_kept() -> Result<(), Refusal> {
+    let mut buffer = [FILL; ANSWER_ROOM];
+    for step in STEPS {
+        let [before, accepted, _] = step.map(|[a, r, t]| counts(a, r, t));
+        for cut in 0..12 {
+            let mut state = fresh_with(before);
+            assert_eq!(state.take(&FRAMES[..cut], &mut buffer)?.answer, None);
+            assert_eq!((state.frame.count, state.counts), (cut, before));
+            all_refused(state, ANSWER_ROOM - 1, Refusal::SmallBuffer);
+            let mut closed = state;
+            let answer = closed.close(&mut buffer)?;
+            assert_eq!(answer.is_some(), cut > 0);
+            assert_eq!(closed, fresh_with(before));
+            state.take(&FRAMES[cut..12], &mut buffer)?;
+            assert_eq!(state, fresh_with(accepted));
+        }
+    }
+    Ok(())
+}
+
+/// From two below the end on, in one piece.
+#[test]
+fn a_piece_that_stops_the_counts() -> Result<(), Refusal> {
+    let mut state = fresh_with(counts(MOST - 2, 0, MOST - 2));
+    let mut buffer = [FILL; 4 * ANSWER_ROOM];
+    let piece = [&REPORT[..], &REPORT, &[0, 0], &REPORT, &REPORT].concat();
+    let answers = state.hand_on(&piece, &mut buffer)?.answers;
+    let end = counts(MOST, 1, MOST);
+    let expected = [
+        Some(counts(MOST - 2, 0, MOST - 2)),
+        Some(counts(MOST - 1, 0, MOST - 1)),
+        None,
+        Some(end),
+        Some(end),
+    ];
+    assert!(answers.map(|answer| answer.report()).eq(expected));
+    assert_eq!(state, fresh_with(end));
+    Ok(())
+}
+
+/// One off, 0, wrapped, and stopped too early.
+const WRONG: [[u64; 3]; 18] = [
+    [0, 0, 1],
+    [0, 0, MOST],
+    [1, 0, 0],
+    [0, 1, 0],
+    [3, 4, 0],
+    [3, 4, 6],
+    [3, 4, 8],
+    [MOST - 1, 0, MOST],
+    [MOST, 0, 0],
+    [MOST, 0, MOST - 1],
+    [0, MOST, MOST - 1],
+    [MOST, 1, 0],
+    [MOST, MOST, MOST - 1],
+    [MOST, MOST, 0],
+    [HALF, HALF, 0],
+    [HALF, HALF, MOST - 1],
+    [HALF, HALF - 1, MOST - 1],
+    [HALF - 1, HALF - 1, MOST],
+];
+
+#[test]
+fn wrong_totals() {
+    for [accepted, refused, total] in WRONG {
+        for cut in 0..12 {
+            let mut stream = Stream::new();
+            stream.feed(&FRAMES[..cut]);
+            let state = State {
+                counts: counts(accepted, refused, total),
+                ..stream.state()
+            };
+            all_refused(state, ANSWER_ROOM, Refusal::BadState);
+            all_refused(state, ANSWER_ROOM - 1, Refusal::SmallBuffer);
+        }
+    }
+}
+
+/// A right total does not make up for a frame that no bytes leave.
+#[test]
+fn wrong_frames_with_right_totals() {
+    for [[accepted, refused, total], ..] in STEPS {
+        for mut state in bad_states() {
+            state.counts = counts(accepted, refused, total);
+            all_refused(state, ANSWER_ROOM, Refusal::BadState);
+        }
+    }
 }
 
 #[test]

@@ -1,4 +1,5 @@
--- Worked examples of specs/Answers.antt, computed: kind 3 in each direction, and beside it kind 2. Assumes nothing.
+-- Worked examples of specs/Answers.antt, computed: kind 3 in each direction, and beside it kind 2; a report, and one with a payload.
+-- Assumes nothing.
 use Prim.Native.Nat.{ℕ}
 use mathlib.Core.Path.{_≡_, refl}
 use mathlib.Core.List.{List, [], _∷_, _++_, map}
@@ -6,10 +7,16 @@ use lib.ListN.{length, replicate}
 use Rattle.words.specs.Bytes.{numberAt, wordBytes}
 use Rattle.ieee754.specs.Operations.{fusedBits}
 use Rattle.frames.specs.Frame.{isKind, kindOf, badPayload, refusalTo, refusalFrame}
+use Rattle.counts.specs.Counts.{reportOf}
+use Rattle.counts.specs.declared.Counts.{Counts}
 use Rattle.answers.specs.Answers.{Answer, directionIn, resultAt, resultsOf, accepted, answerTo}
 
+-- where 258 frames were accepted and 3 refused
+abbrev counts : Counts
+counts = record { accepted = 258; refused = 3; total = 261 }
+
 abbrev answer : List ℕ → Answer
-answer body = answerTo (length body) body
+answer body = answerTo counts (length body) body
 
 abbrev triple : ℕ → ℕ → ℕ → List ℕ
 triple a b c = wordBytes a ++ (wordBytes b ++ wordBytes c)
@@ -36,3 +43,16 @@ in-each = refl
 pub to-nearest : answer (1 ∷ 2 ∷ triples) ≡ results 0x3ff0000000000000 0
 unfolding answerTo accepted resultsOf resultAt directionIn refusalTo isKind kindOf badPayload numberAt wordBytes fusedBits
 to-nearest = refl
+
+-- 28 bytes; with a byte or with 24 it is 5
+abbrev eight : ℕ → ℕ → List ℕ
+eight a b = 0 ∷ 0 ∷ 0 ∷ 0 ∷ 0 ∷ 0 ∷ a ∷ b ∷ []
+
+pub reports :
+    map answer ((1 ∷ 4 ∷ []) ∷ (1 ∷ 4 ∷ 0 ∷ []) ∷ (1 ∷ 4 ∷ replicate 24 0) ∷ [])
+    ≡ record { bytes = 0 ∷ 26 ∷ 1 ∷ 0 ∷ (eight 1 2 ++ (eight 0 3 ++ eight 1 5)); number = 0 }
+    ∷ record { bytes = refusalFrame 5; number = 5 }
+    ∷ record { bytes = refusalFrame 5; number = 5 }
+    ∷ []
+unfolding answerTo accepted resultsOf resultAt directionIn refusalTo isKind kindOf badPayload reportOf numberAt wordBytes fusedBits
+reports = refl

@@ -1,8 +1,9 @@
--- Answers (document 01, "A delivery enters"; document 02, A.3): the results of a payload's items, and the answer to a whole frame of each
--- kind. Lengths, kinds and the sender's refusals come before it, in crates/frames/specs/Frame.antt. Definitions only.
+-- Answers (document 01, "A delivery enters"; document 02, A.3 and A.6): the results of a payload's items, and the answer to a whole frame of
+-- each kind, where a report shows these counts. Lengths, kinds and the sender's refusals come before it, in crates/frames/specs/Frame.antt,
+-- and what is counted in crates/counts/specs/Counts.antt. Definitions only.
 use Prim.Native.Nat.{ℕ, zero, suc, _+_, _*_, _/_, _%_, _-_}
 use mathlib.Core.List.{List, [], _∷_, _++_}
-use mathlib.Core.Bool.{cond}
+use mathlib.Core.Bool.{Bool, cond, _&&_}
 use lib.ListN.{length, getD, drop}
 use lib.Dec.{eqb}
 use Rattle.words.specs.Bytes.{numberAt, wordBytes}
@@ -14,6 +15,8 @@ use Rattle.rounding.specs.declared.Named.the-variants.{Known, Unknown}
 use Rattle.ieee754.specs.Operations.{fusedBits}
 use Rattle.exp2m1.specs.Score.{scoreBits}
 use Rattle.frames.specs.Frame.{bodyLength, itemsFrom, itemBytes, itemCount, refusalTo, refusalFrame}
+use Rattle.counts.specs.Counts.{reportOf}
+use Rattle.counts.specs.declared.Counts.{Counts}
 
 -- ---- results
 
@@ -48,16 +51,24 @@ pub record Answer : Type 0 where
 abbrev pub answerFrame : List ℕ → List ℕ
 answerFrame results = (2 + length results) / 256 ∷ (2 + length results) % 256 ∷ 1 ∷ 0 ∷ results
 
--- the answer to a body of n bytes that is not refused
-unfoldable pub accepted : ℕ → List ℕ → List ℕ
-accepted n body = answerFrame (resultsOf (getD body 1 0) (itemCount (getD body 1 0) (n - 2)) (drop 2 body))
+-- the answer to a body of n bytes that is not refused: a report's three numbers, or the results of the items
+unfoldable pub accepted : Counts → ℕ → List ℕ → List ℕ
+accepted c n body =
+    answerFrame
+    (cond (eqb (getD body 1 0) 4)
+    (reportOf c)
+    (resultsOf (getD body 1 0) (itemCount (getD body 1 0) (n - 2)) (drop 2 body)))
 
-unfoldable pub answerTo : ℕ → List ℕ → Answer
-answerTo n body =
+unfoldable pub answerTo : Counts → ℕ → List ℕ → Answer
+answerTo c n body =
     cond (eqb (refusalTo n body) 0)
-    (record { bytes = accepted n body; number = 0 })
+    (record { bytes = accepted c n body; number = 0 })
     (record { bytes = refusalFrame (refusalTo n body); number = refusalTo n body })
 
 -- the answer to a whole frame
-unfoldable pub answerOf : List ℕ → Answer
-answerOf f = answerTo (bodyLength f) (drop 2 f)
+unfoldable pub answerOf : Counts → List ℕ → Answer
+answerOf c f = answerTo c (bodyLength f) (drop 2 f)
+
+-- an accepted report
+unfoldable pub isReport : List ℕ → Bool
+isReport f = eqb (refusalTo (bodyLength f) (drop 2 f)) 0 && eqb (getD (drop 2 f) 1 0) 4

@@ -1,4 +1,4 @@
-// The answer to a whole frame: the results of its payload, or its refusal, written into a buffer.
+// The answer to a frame that is not refused: the results of its payload, or a report's numbers, written into a buffer.
 //
 // The contracts are equations with the documents' answers on lists of bytes, in specs/Answers.antt.
 ghost use mathlib.Core.Path.{_≡_};
@@ -9,7 +9,10 @@ ghost use Rattle.frames.specs.Frame.{answerRoom, itemsFrom, itemBytes, refusalT
 ghost use Rattle.frames.specs.Body.{Body};
 ghost use Rattle.answers.specs.Answers.{directionIn, resultAt, resultsOf, answerTo};
 ghost use Rattle.answers.specs.Written.{Written};
+use counts::Counts;
+use counts::REPORT_BYTES;
 use frames::DIRECTED;
+use frames::REPORT;
 use frames::SCORES;
 use rounding::Direction;
 use rounding::Named;
@@ -62,35 +65,20 @@ fn write_results(kind: u8, payload: &[u8], n: usize, out: &mut [u8])
     }
 }
 
-// The length of an answer that was written, and its refusal number or 0.
-pub struct Answered {
-    pub len: usize,
-    pub refusal: u8,
-}
-
-// Writes the answer to a frame that is not refused.
-fn write_answer(n: usize, body: &[u8], answer: &mut [u8]) -> usize
+// Writes the answer to a frame that is not refused, and returns its length. A report shows the counts.
+pub fn write_answer(counts: Counts, n: usize, body: &[u8], answer: &mut [u8]) -> usize
     requires { ⌜ Body n (now body) × (refusalTo n (now body) ≡ 0) × (answerRoom ≤ length (now answer)) ⌝ }
-    ensures { λ r. ⌜ Written (answerTo n (now (body .entry))) (record { len = r; refusal = 0 }) (now (answer .entry)) (now (answer .exit)) ⌝ }
+    ensures { λ r. ⌜ Written (answerTo counts n (now (body .entry))) r (now (answer .entry)) (now (answer .exit)) ⌝ }
 {
     let kind = body[1];
+    if kind == REPORT {
+        frames::write_head(answer, REPORT_BYTES + 2, 0);
+        counts::write_report(counts, &mut answer[4..]);
+        return REPORT_BYTES + 4;
+    }
     let count = frames::item_count(kind, n - 2);
     let size = 8 * count + 2;
     frames::write_head(answer, size, 0);
     write_results(kind, frames::payload(body), count, &mut answer[4..]);
     size + 2
-}
-
-// Answers a whole frame with a body of n bytes. Where n is 2 to 514, body is that body; another length is refused by itself.
-pub fn respond(n: usize, body: &[u8], answer: &mut [u8]) -> Answered
-    requires { ⌜ Body n (now body) × (answerRoom ≤ length (now answer)) ⌝ }
-    ensures { λ r. ⌜ Written (answerTo n (now (body .entry))) r (now (answer .entry)) (now (answer .exit)) ⌝ }
-{
-    let refusal = frames::refusal_to(n, body);
-    if refusal != 0 {
-        let len = frames::write_refusal(refusal, answer);
-        return Answered { len, refusal };
-    }
-    let len = write_answer(n, body, answer);
-    Answered { len, refusal }
 }

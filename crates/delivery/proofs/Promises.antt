@@ -8,13 +8,11 @@ use native.Mathlib.Omega.{arith}
 use lib.ListN.{length, drop, length-append, length-drop}
 use lib.Dec.{ltb}
 use borrow.Author.Tests.{lt-ltb, le-ltb, ltb-false}
-use Rattle.frames.specs.Frame.{longestBody, answerRoom, whole}
-use Rattle.partial_frame.specs.State.{isLeft}
+use Rattle.frames.specs.Frame.{answerRoom, whole}
 use Rattle.service.specs.Book.{Book, Reply, bookTake}
 use Rattle.service.specs.Service.{isGood, bookOf, untouched}
 use Rattle.service.specs.declared.State.{State}
 use Rattle.service.proofs.Simulation.{good-state}
-use Rattle.service.proofs.Calls.{shown-by}
 use Rattle.delivery.specs.Delivery.{Given, nothing, andThen, takes, deliveryOf, given, handOn, handedOnOf, Delivers, Delivery}
 use Rattle.delivery.specs.declared.HandedOn.{HandedOn}
 use Rattle.delivery.proofs.Takes.{take-most, take-unfinished, answer-most, takes-step, uses}
@@ -62,11 +60,6 @@ delivery-uses b (x ∷ p) room h l = rw (takes-step (length p) room b (x ∷ p) 
 
 -- ---- the cases of hand_on
 
-is-good : (s : State) (t : Bool) → isLeft (s .frame) ≡ t → isGood s ≡ t
-unfolding isGood
-is-good s true e = rw e refl
-is-good s false e = rw e refl
-
 module _ (s : State) (piece before : List ℕ) where
   small-reply : length before < answerRoom → handOn s piece before ≡ untouched 6 s before
   unfolding handOn
@@ -91,25 +84,25 @@ module _ (s : State) (piece before : List ℕ) where
         progress = λ g i l. absurd (omega arith);
       }
 
-  pub bad-refused : answerRoom ≤ length before → isLeft (s .frame) ≡ false → Delivers s piece before (record { state = s; used = 0; len = 0; refusal = 7 }) before
+  pub bad-refused : answerRoom ≤ length before → isGood s ≡ false → Delivers s piece before (record { state = s; used = 0; len = 0; refusal = 7 }) before
   bad-refused h e =
-      let b = bad-reply h (is-good s false e) in
+      let b = bad-reply h e in
       record {
         reply = sym (ap handedOnOf b);
         buffer = sym (ap (λ (x : Reply). x .buffer) b);
         used = omega arith;
         len = omega arith;
-        goes-on = λ g i. absurd (true≢false (sym g ∙ is-good s false e));
-        progress = λ g i l. absurd (true≢false (sym g ∙ is-good s false e));
+        goes-on = λ g i. absurd (true≢false (sym g ∙ e));
+        progress = λ g i l. absurd (true≢false (sym g ∙ e));
       }
 
-  pub delivered : (r : HandedOn) (after : List ℕ) → answerRoom ≤ length before → isLeft (s .frame) ≡ true → length (s .frame .body) ≡ longestBody
+  pub delivered : (r : HandedOn) (after : List ℕ) → answerRoom ≤ length before → isGood s ≡ true → whole (bookOf s .held) ≡ false
       → Delivery (deliveryOf (bookOf s) piece (length before)) r before after → Delivers s piece before r after
   unfolding deliveryOf
-  delivered r after h e l d =
+  delivered r after h e w d =
       let g = deliveryOf (bookOf s) piece (length before) in
-      let reached = takes-reached (length piece) (length before) (bookOf s) piece (shown-by s l e .1) in
-      let good = good-reply h (is-good s true e) in
+      let reached = takes-reached (length piece) (length before) (bookOf s) piece w in
+      let good = good-reply h e in
       let u : r .used ≡ g .used = ap (λ (x : HandedOn). x .used) (d .reply) in
       let n : r .len ≡ length (g .answers) = ap (λ (x : HandedOn). x .len) (d .reply) in
       record {

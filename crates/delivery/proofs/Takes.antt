@@ -10,8 +10,8 @@ use borrow.Author.Tests.{lt-ltb, le-ltb}
 use borrow.Rule.Slice.PartMut.{putMid}
 use Rattle.frames.specs.Frame.{answerRoom, whole}
 use Rattle.words.proofs.Parts.{to-end, put-behind}
-use Rattle.service.specs.Memory.{viewOf}
-use Rattle.service.specs.Book.{Book, Entry, Reply, Take, emptyBook, move, stateOf, replyOf, bookTake, bookCall}
+use Rattle.memory.specs.Memory.{viewOf}
+use Rattle.service.specs.Book.{Book, Entry, Reply, Take, emptied, move, stateOf, replyOf, bookTake, bookCall}
 use Rattle.service.specs.Service.{takeOf, takenOf}
 use Rattle.service.specs.declared.State.{State}
 use Rattle.service.specs.declared.Taken.{Taken}
@@ -43,11 +43,11 @@ answer-most b p = go (whole (move (b .held) p .held)) refl
     go true w = rw w (answer-length (viewOf (b .memory)) (move (b .held) p .held) .1)
     go false w = rw w (omega arith)
 
--- a take that answered leaves the book empty
-pub take-answered : (b : Book) (p : List ℕ) → 0 < length (bookTake b p .answer) → bookTake b p .book ≡ emptyBook
+-- a take that answered leaves a book that holds no byte
+pub take-answered : (b : Book) (p : List ℕ) → 0 < length (bookTake b p .answer) → bookTake b p .book ≡ emptied (bookTake b p .book .memory)
 take-answered b p = go (whole (move (b .held) p .held)) refl
   where
-    go : (t : Bool) → whole (move (b .held) p .held) ≡ t → 0 < length (bookTake b p .answer) → bookTake b p .book ≡ emptyBook
+    go : (t : Bool) → whole (move (b .held) p .held) ≡ t → 0 < length (bookTake b p .answer) → bookTake b p .book ≡ emptied (bookTake b p .book .memory)
     go true w = rw w (λ h. refl)
     go false w = rw w (λ h. absurd (omega arith))
 
@@ -110,11 +110,11 @@ pub record Going (g : Given) (piece out₀ : List ℕ) (out : List ℕ) (s : Sta
   pub front : out ≡ answers ++ drop len out₀
   pub rest : g ≡ behind used answers (takes turns (length out₀ - len) book (drop used piece))
 
--- one take more: the rest goes on behind it, it used a byte, and where it answered the book is empty
+-- one take more: the rest goes on behind it, it used a byte, and where it answered the book holds no byte
 pub record Took (g : Given) (piece out₀ out : List ℕ) (used len : ℕ) (t : Taken) (w : List ℕ) : Type 0 where
   pub going : Going g piece out₀ (putMid len (length out - len) out w) (t .state) (used + t .used) (len + t .len)
   pub some : 1 ≤ t .used
-  pub emptied : 0 < t .len → going .book ≡ emptyBook
+  pub no-frame : 0 < t .len → going .book ≡ emptied (going .book .memory)
 
 pub going : (b : Book) (piece out : List ℕ) (s : State) → s ≡ stateOf b → whole (b .held) ≡ false → Going (deliveryOf b piece (length out)) piece out out s 0 0
 unfolding deliveryOf
@@ -225,4 +225,4 @@ module _ {g : Given} {piece out₀ out : List ℕ} {s : State} {used len : ℕ} 
 
     pub one-take : Took g piece out₀ out used len t w
     unfolding going-on
-    one-take = record { going = going-on; some = some-used; emptied = λ h. take-answered (go .book) p (subst (λ (n : ℕ). 0 < n) same-len h) }
+    one-take = record { going = going-on; some = some-used; no-frame = λ h. take-answered (go .book) p (subst (λ (n : ℕ). 0 < n) same-len h) }

@@ -49,7 +49,8 @@ fn take_frames(state: State, piece: &[u8], answers: &mut [u8]) -> HandedOn
         used += taken.used;
         len += taken.len;
         if 0 < taken.len {
-            let run = runs::answer_run(&piece[used..], &mut answers[len..]);
+            let run = runs::answer_run(state.view, &piece[used..], &mut answers[len..]);
+            state = service::between(run.view);
             used += run.used;
             len += run.len;
         }
@@ -73,8 +74,7 @@ pub fn hand_on(state: State, piece: &[u8], answers: &mut [u8]) -> HandedOn
             refusal: SMALL_BUFFER,
         };
     }
-    let frame = state.frame;
-    if partial_frame::is_left(frame) {
+    if service::is_good(state) {
         return take_frames(state, piece, answers);
     }
     HandedOn {

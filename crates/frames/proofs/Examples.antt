@@ -18,8 +18,8 @@ pub by-length : map refusal ([] ∷ (1 ∷ []) ∷ body 1 1 [] 513 ∷ body 9 9 
 unfolding refusalTo
 by-length = refl
 
--- 3, also where 4 or 11 applies; 4, for kinds 0 and 4, also where 5 does
-pub by-version-and-kind : map refusal (body 0 1 [] 8 ∷ body 2 4 [] 8 ∷ body 2 3 (4 ∷ []) 24 ∷ body 1 0 [] 8 ∷ body 1 4 [] 0 ∷ body 1 255 [] 3 ∷ []) ≡ 3 ∷ 3 ∷ 3 ∷ 4 ∷ 4 ∷ 4 ∷ []
+-- 3, also where 4 or 11 applies; 4, for kinds 0 and 5, also where 5 does
+pub by-version-and-kind : map refusal (body 0 1 [] 8 ∷ body 2 5 [] 8 ∷ body 2 3 (4 ∷ []) 24 ∷ body 1 0 [] 8 ∷ body 1 5 [] 0 ∷ body 1 255 [] 3 ∷ []) ≡ 3 ∷ 3 ∷ 3 ∷ 4 ∷ 4 ∷ 4 ∷ []
 unfolding refusalTo isKind
 by-version-and-kind = refl
 
@@ -51,6 +51,12 @@ pub directed-kind :
     ≡ 11 ∷ 11 ∷ 11 ∷ 11 ∷ 5 ∷ 5 ∷ 5 ∷ 5 ∷ 0 ∷ 0 ∷ 0 ∷ 0 ∷ 0 ∷ []
 unfolding refusalTo isKind kindOf badPayload
 directed-kind = refl
+
+-- a report: 0 for no payload; 5 for 1 byte, for 8, 24 and 512; 3 for version 2
+pub report-kind :
+    map refusal (body 1 4 [] 0 ∷ body 1 4 [] 1 ∷ body 1 4 [] 8 ∷ body 1 4 [] 24 ∷ body 1 4 [] 512 ∷ body 2 4 [] 0 ∷ []) ≡ 0 ∷ 5 ∷ 5 ∷ 5 ∷ 5 ∷ 3 ∷ []
+unfolding refusalTo isKind kindOf badPayload
+report-kind = refl
 
 -- the items of the longest payloads
 pub counts : (itemCount 1 512 ≡ 64) × (itemCount 2 504 ≡ 21) × (itemCount 3 505 ≡ 21)

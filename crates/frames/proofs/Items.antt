@@ -2,12 +2,12 @@
 use Prim.Native.Nat.{ℕ, zero, suc, _+_, _*_, _-_, _/_, _≤_}
 use mathlib.Core.Path.{_≡_, refl}
 use mathlib.Core.List.{List}
-use mathlib.Core.Bool.{Bool, true, false}
+use mathlib.Core.Bool.{Bool, true, false, not}
 use native.Mathlib.Nat.{mul-le-mul-left, div-mul-le-self}
 use native.Mathlib.Omega.{arith}
 use lib.Dec.{leb, eqb}
 use borrow.Author.Tests.{lt-ltb, le-ltb, leb-true, leb-false, eqb-true, eqb-false}
-use Rattle.frames.specs.Frame.{isKind, kindOf, itemsFrom, itemBytes, itemCount}
+use Rattle.frames.specs.Frame.{noItems, isKind, kindOf, itemsFrom, itemBytes, itemCount, badPayload}
 
 -- of every other number than 3 the items come first, and there is no refusal of its own
 pub items-first : (kind : ℕ) → (kind ≡ 3 → ⊥) → itemsFrom kind ≡ 0
@@ -16,7 +16,8 @@ items-first zero n = refl
 items-first (suc zero) n = refl
 items-first (suc (suc zero)) n = refl
 items-first (suc (suc (suc zero))) n = absurd (n refl)
-items-first (suc (suc (suc (suc kind)))) n = refl
+items-first (suc (suc (suc (suc zero)))) n = refl
+items-first (suc (suc (suc (suc (suc kind))))) n = refl
 
 pub items-third : {kind : ℕ} → kind ≡ 3 → itemsFrom kind ≡ 1
 unfolding kindOf
@@ -28,7 +29,8 @@ none-own zero p n = refl
 none-own (suc zero) p n = refl
 none-own (suc (suc zero)) p n = refl
 none-own (suc (suc (suc zero))) p n = absurd (n refl)
-none-own (suc (suc (suc (suc kind)))) p n = refl
+none-own (suc (suc (suc (suc zero)))) p n = refl
+none-own (suc (suc (suc (suc (suc kind))))) p n = refl
 
 pub item-one : {kind : ℕ} → kind ≡ 1 → itemBytes kind ≡ 8
 unfolding kindOf
@@ -40,7 +42,8 @@ item-other zero n = refl
 item-other (suc zero) n = absurd (n refl)
 item-other (suc (suc zero)) n = refl
 item-other (suc (suc (suc zero))) n = refl
-item-other (suc (suc (suc (suc kind)))) n = refl
+item-other (suc (suc (suc (suc zero)))) n = refl
+item-other (suc (suc (suc (suc (suc kind))))) n = refl
 
 pub item-least : (kind : ℕ) → 8 ≤ itemBytes kind
 item-least kind = go (eqb kind 1) refl
@@ -49,19 +52,33 @@ item-least kind = go (eqb kind 1) refl
     go true e = omega (arith, item-one (eqb-true kind 1 e))
     go false e = omega (arith, item-other kind (eqb-false kind 1 e))
 
-pub some-kind : (kind : ℕ) → 1 ≤ kind → kind ≤ 3 → isKind kind ≡ true
+pub some-kind : (kind : ℕ) → 1 ≤ kind → kind ≤ 4 → isKind kind ≡ true
 unfolding isKind
 some-kind zero l h = absurd (omega arith)
-some-kind (suc place) l h = lt-ltb place 3 (omega arith)
+some-kind (suc place) l h = lt-ltb place 4 (omega arith)
 
-pub no-kind : (kind : ℕ) → (1 ≤ kind → kind ≤ 3 → ⊥) → isKind kind ≡ false
+pub no-kind : (kind : ℕ) → (1 ≤ kind → kind ≤ 4 → ⊥) → isKind kind ≡ false
 unfolding isKind
 no-kind zero n = refl
-no-kind (suc place) n = le-ltb place 3 (by (leb 3 place) refl)
+no-kind (suc place) n = le-ltb place 4 (by (leb 4 place) refl)
   where
-    by : (t : Bool) → leb 3 place ≡ t → 3 ≤ place
-    by true e = leb-true 3 place e
-    by false e = let h = leb-false 3 place e in absurd (n (omega arith) (omega arith))
+    by : (t : Bool) → leb 4 place ≡ t → 4 ≤ place
+    by true e = leb-true 4 place e
+    by false e = let h = leb-false 4 place e in absurd (n (omega arith) (omega arith))
+
+-- the lengths that a report does not have, and those that every other number does not
+pub bad-report : {kind : ℕ} → kind ≡ 4 → (n : ℕ) → badPayload kind n ≡ not (eqb n 0)
+unfolding kindOf badPayload
+bad-report e n = rw e refl
+
+pub bad-items : (kind n : ℕ) → (kind ≡ 4 → ⊥) → badPayload kind n ≡ noItems (itemsFrom kind) (itemBytes kind) n
+unfolding kindOf badPayload
+bad-items zero n z = refl
+bad-items (suc zero) n z = refl
+bad-items (suc (suc zero)) n z = refl
+bad-items (suc (suc (suc zero))) n z = refl
+bad-items (suc (suc (suc (suc zero)))) n z = absurd (z refl)
+bad-items (suc (suc (suc (suc (suc kind))))) n z = refl
 
 -- an item has 8 bytes at least, so that 8 bytes for each take no more room than the payload; and the items end within it
 pub items-fit : (kind n : ℕ) → 8 * itemCount kind n ≤ n

@@ -1,18 +1,20 @@
 -- `refusalTo`, case by case, as a function that tries the refusals in order comes to them. Assumes nothing.
 use Prim.Native.Nat.{ℕ, zero, suc, _-_, _≤_, _<_}
-use mathlib.Core.Path.{_≡_, refl}
+use mathlib.Core.Path.{_≡_, refl, sym, _∙_}
 use mathlib.Core.Logic.{_⊎_, inl, inr}
 use mathlib.Core.List.{List, [], _∷_}
 use mathlib.Core.Bool.{Bool, true, false, cond, not, _&&_, _||_}
+use native.Mathlib.Nat.{le-of-lt}
 use native.Mathlib.Omega.{arith}
 use lib.ListN.{length, getD, drop}
 use lib.Dec.{ltb, leb, eqb}
-use borrow.Author.Tests.{lt-ltb, le-ltb, le-leb, leb-true, leb-false, eq-eqb, ne-eqb, ltb-false}
+use borrow.Author.Tests.{lt-ltb, le-ltb, le-leb, leb-true, leb-false, eq-eqb, ne-eqb, eqb-true, eqb-false, ltb-false}
 use Rattle.rounding.specs.Named.{directionOf}
 use Rattle.rounding.specs.declared.Named.{Named}
 use Rattle.rounding.specs.declared.Named.the-variants.{Known, Unknown}
 use Rattle.frames.specs.Frame.{longestBody, kept, directionRefusal, isKind, kindOf, itemsFrom, badPayload, orElse, refusalTo}
 use Rattle.frames.specs.Body.{Body}
+use Rattle.frames.proofs.Items.{items-first, bad-items}
 
 -- the first of two numbers, where it is not 0
 or-first : (m n : ℕ) → (m ≡ 0 → ⊥) → orElse m n ≡ m
@@ -93,7 +95,8 @@ own-senders (suc zero) p = inl (omega arith)
 own-senders (suc (suc zero)) p = inl (omega arith)
 own-senders (suc (suc (suc zero))) [] = inl (omega arith)
 own-senders (suc (suc (suc zero))) (b ∷ p) = direction-senders (directionOf b)
-own-senders (suc (suc (suc (suc kind)))) p = inl (omega arith)
+own-senders (suc (suc (suc (suc zero)))) p = inl (omega arith)
+own-senders (suc (suc (suc (suc (suc kind))))) p = inl (omega arith)
 
 pub refusal-senders : (n : ℕ) (b : List ℕ) → Senders (refusalTo n b)
 unfolding refusalTo
@@ -135,6 +138,11 @@ either : (s t : Bool) → s || t ≡ false → s ≡ false
 either true t g = absurd (mathlib.Core.Bool.true≢false g)
 either false t g = refl
 
-pub good-items : (n : ℕ) (b : List ℕ) → refusalTo n b ≡ 0 → itemsFrom (getD b 1 0) < n - 2
-unfolding badPayload
-good-items n b e = leb-false (n - 2) (itemsFrom (getD b 1 0)) (either _ _ (good-payload n b e))
+pub good-items : (n : ℕ) (b : List ℕ) → refusalTo n b ≡ 0 → itemsFrom (getD b 1 0) ≤ n - 2
+good-items n b e = go (getD b 1 0) (eqb (getD b 1 0) 3) refl (good-payload n b e)
+  where
+    go : (kind : ℕ) (t : Bool) → eqb kind 3 ≡ t → badPayload kind (n - 2) ≡ false → itemsFrom kind ≤ n - 2
+    go kind true k g =
+        let z = eqb-true kind 3 k in
+        le-of-lt (leb-false (n - 2) (itemsFrom kind) (either _ _ (sym (bad-items kind (n - 2) (λ w. let v : ⊥ = omega arith in v)) ∙ g)))
+    go kind false k g = omega (arith, items-first kind (eqb-false kind 3 k))

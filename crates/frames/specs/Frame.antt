@@ -1,5 +1,5 @@
--- Frames (document 01, "A delivery enters"; document 02, A.3): length and body, the kinds, and the sender's refusals in their order. It goes
--- on with the answer to a whole frame in crates/answers/specs/Answers.antt. Definitions only.
+-- Frames (document 01, "A delivery enters"; document 02, A.3 and A.6): length and body, the kinds, and the sender's refusals in their order.
+-- It goes on with the answer to a whole frame in crates/answers/specs/Answers.antt. Definitions only.
 use Prim.Native.Nat.{ℕ, zero, suc, _+_, _*_, _/_, _%_, _-_}
 use mathlib.Core.List.{List, [], _∷_}
 use mathlib.Core.Bool.{Bool, false, not, cond, _&&_, _||_}
@@ -33,15 +33,21 @@ kept n = leb 2 n && leb n longestBody
 
 -- ---- kinds
 
--- what belongs to a kind: the bytes that precede its items, its own refusal of a payload or 0, and the bytes of an item
+-- what belongs to a kind: the bytes that precede its items, its own refusal of a payload or 0, the bytes of an item, and the lengths of a
+-- payload that it does not have
 pub record Kind : Type 0 where
   pub before : ℕ
   pub own : List ℕ → ℕ
   pub item : ℕ
+  pub bad : ℕ → Bool
+
+-- in n bytes nothing comes behind what precedes the items, or no multiple of an item
+abbrev pub noItems : ℕ → ℕ → ℕ → Bool
+noItems before item n = leb n before || not (eqb ((n - before) % item) 0)
 
 -- items alone
 abbrev pub plain : ℕ → Kind
-plain size = record { before = 0; own = λ payload. 0; item = size }
+plain size = record { before = 0; own = λ payload. 0; item = size; bad = noItems 0 size }
 
 -- a direction byte, refused by 11 where it names none, and then triples; an empty payload has no such byte
 abbrev pub directionRefusal : Named → ℕ
@@ -53,11 +59,15 @@ badDirection [] = 0
 badDirection (b ∷ payload) = directionRefusal (directionOf b)
 
 abbrev pub directed : Kind
-directed = record { before = 1; own = badDirection; item = 24 }
+directed = record { before = 1; own = badDirection; item = 24; bad = noItems 1 24 }
 
--- by their numbers from 1 on: 8-byte weights; 24-byte triples; triples in a direction
+-- no payload; it has no items, and their bytes are not asked
+abbrev pub bare : Kind
+bare = record { before = 0; own = λ payload. 0; item = 24; bad = λ n. not (eqb n 0) }
+
+-- by their numbers from 1 on: 8-byte weights; 24-byte triples; triples in a direction; a report
 abbrev pub kinds : List Kind
-kinds = plain 8 ∷ plain 24 ∷ directed ∷ []
+kinds = plain 8 ∷ plain 24 ∷ directed ∷ bare ∷ []
 
 unfoldable pub isKind : ℕ → Bool
 isKind zero = false
@@ -80,9 +90,9 @@ itemCount kind n = (n - itemsFrom kind) / itemBytes kind
 
 -- ---- the sender's refusals
 
--- in a payload of n bytes nothing comes behind what precedes the items, or no multiple of an item
+-- a payload of n bytes is not what the kind has
 unfoldable pub badPayload : ℕ → ℕ → Bool
-badPayload kind n = leb n (itemsFrom kind) || not (eqb ((n - itemsFrom kind) % itemBytes kind) 0)
+badPayload kind n = kindOf kind .bad n
 
 -- the first of two numbers that is not 0, or 0
 abbrev pub orElse : ℕ → ℕ → ℕ

@@ -21,12 +21,14 @@ pub const ANSWER_ROOM: usize = 516;
 const REFUSAL_BYTES: usize = 4;
 
 const VERSION: u8 = 1;
-// The kinds: scores, a * b + c to nearest, and in a direction.
+// The kinds: scores, a * b + c to nearest, and in a direction, and a report.
 pub const SCORES: u8 = 1;
 
 const FUSED: u8 = 2;
 
 pub const DIRECTED: u8 = 3;
+
+pub const REPORT: u8 = 4;
 
 // From a body's third byte to its end; a body under 2 bytes gives its own empty end.
 pub fn payload(body: &[u8]) -> &[u8]
@@ -67,7 +69,7 @@ fn is_kind(kind: u8) -> bool
     ensures { λ r. ⌜ r ≡ isKind kind ⌝ }
 {
     match kind {
-        SCORES | FUSED | DIRECTED => true,
+        SCORES | FUSED | DIRECTED | REPORT => true,
         _ => false,
     }
 }
@@ -98,10 +100,13 @@ fn own_refusal(kind: u8, payload: &[u8]) -> u8
     }
 }
 
-// Whether a payload of n bytes is not what the kind has: at least one item, and whole items.
+// Whether a payload of n bytes is not what the kind has: nothing in a report, and otherwise at least one item, and whole items.
 fn bad_payload(kind: u8, n: usize) -> bool
     ensures { λ r. ⌜ r ≡ badPayload kind n ⌝ }
 {
+    if kind == REPORT {
+        return n != 0;
+    }
     let from = items_from(kind);
     if n <= from {
         return true;

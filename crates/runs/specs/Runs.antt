@@ -5,20 +5,21 @@ use mathlib.Core.Path.{_≡_}
 use mathlib.Core.List.{List, [], _++_}
 use lib.ListN.{length, take, drop}
 use Rattle.frames.specs.Frame.{answerRoom, bodyLength}
-use Rattle.answers.specs.Answers.{answerOf}
+use Rattle.memory.specs.Memory.{answerWith, viewWith}
+use Rattle.memory.specs.declared.View.{View}
 use Rattle.runs.specs.declared.Run.{Run}
 
--- whole frames and their answers; before each frame there is room for one more answer
-pub data Frames (room : ℕ) : List ℕ → List ℕ → Type 0 where
-  none : Frames room [] []
-  more : {front answers : List ℕ} → Frames room front answers → (f : List ℕ) → length f ≡ 2 + bodyLength f → answerRoom ≤ room - length answers
-      → Frames room (front ++ f) (answers ++ answerOf f .bytes)
+-- whole frames, their answers, and what is shown after them; before each frame there is room for one more answer
+pub data Frames (room : ℕ) (start : View) : List ℕ → List ℕ → View → Type 0 where
+  none : Frames room start [] [] start
+  more : {front answers : List ℕ} {v : View} → Frames room start front answers v → (f : List ℕ) → length f ≡ 2 + bodyLength f → answerRoom ≤ room - length answers
+      → Frames room start (front ++ f) (answers ++ answerWith v f .bytes) (viewWith v f)
 
 -- what answer_run promises: the bytes used are whole frames, their answers fill the buffer's front, and the rest keeps its content. How many
 -- frames a run has is left free: take answers what is behind it
-pub record Answers (piece : List ℕ) (r : Run) (before after : List ℕ) : Type 0 where
+pub record Answers (v : View) (piece : List ℕ) (r : Run) (before after : List ℕ) : Type 0 where
   pub answers : List ℕ
-  pub frames : Frames (length before) (take (r .used) piece) answers
+  pub frames : Frames (length before) v (take (r .used) piece) answers (r .view)
   pub within : r .used ≤ length piece
   pub fits : r .len ≤ length before
   pub len : r .len ≡ length answers

@@ -1,6 +1,6 @@
 -- `takeOf` and `closeOf`, case by case, as the code comes to them: the steps over what is held are the moves of the book. Assumes nothing.
 use Prim.Native.Nat.{ℕ, zero, suc, _+_, _≤_}
-use mathlib.Core.Path.{_≡_, refl, sym, ap, subst, _∙_}
+use mathlib.Core.Path.{_≡_, refl, sym, ap, subst, subst₂, _∙_}
 use mathlib.Core.List.{List, [], _∷_, _++_}
 use mathlib.Core.Bool.{Bool, true, false}
 use native.Mathlib.Omega.{arith}
@@ -8,23 +8,27 @@ use lib.ListN.{length, take, drop}
 use borrow.Author.Tests.{le-ltb, leb-true, leb-false}
 use Rattle.frames.specs.Frame.{longestBody, answerRoom, bodyLength, whole, kept, refusalFrame}
 use Rattle.answers.specs.Answers.{Answer, answerOf, answerTo}
-use Rattle.partial_frame.specs.State.{frameOf, bytesIn, firstBytes, isLeft, filled, keptBytes, placesOf}
+use Rattle.partial_frame.specs.State.{frameOf, emptyFrame, bytesIn, firstBytes, isLeft, lengthIn, filled, keptBytes, placesOf}
 use Rattle.partial_frame.specs.Steps.{afterByte, wholeIn, further, advance}
-use Rattle.service.specs.Memory.{Memory, stateWith, viewIn}
-use Rattle.service.specs.Whole.{Whole, answerIn}
-use Rattle.answers.specs.Written.{Written}
-use Rattle.answers.specs.declared.Answered.{Answered}
-use Rattle.service.specs.Book.{emptyBook, stateOf, Entry, Moved, Reply, move, oneMore, closedWith, replyOf, isSmall}
+use Rattle.counts.specs.Counts.{shownNext}
+use Rattle.memory.specs.Memory.{Memory, viewOf, isView, Sized, answerWith, remembered, answerBy, viewBy, viewWith}
+use Rattle.memory.specs.Answers.{Answers}
+use Rattle.memory.specs.declared.View.{View}
+use Rattle.memory.specs.declared.Answered.{Answered}
+use Rattle.memory.proofs.Memory.{view-after}
+use Rattle.service.specs.Whole.{Whole, bodyIn}
+use Rattle.service.specs.Book.{emptyBook, emptied, stateWith, stateOf, Entry, Moved, Reply, move, oneMore, closedWith, replyOf, isSmall}
 use Rattle.service.specs.Service.{freshState, isGood, bookOf, takeOf, closeOf, untouched, takenOf, closedOf}
 use Rattle.service.specs.declared.State.{State}
 use Rattle.service.specs.declared.Closed.{Closed}
 use Rattle.partial_frame.specs.declared.PartialFrame.{PartialFrame}
 use Rattle.partial_frame.specs.declared.Progress.{Progress}
-use Rattle.partial_frame.proofs.Places.{take-padded, length-places}
+use Rattle.partial_frame.proofs.Places.{take-padded, and-true, length-places}
 use Rattle.frames.proofs.Refusals.{kept-bounds}
 use Rattle.answers.proofs.Answers.{answer-by-length}
-use Rattle.partial_frame.proofs.Held.{byte-held, whole-held, not-past}
+use Rattle.partial_frame.proofs.Held.{byte-held, whole-held, not-past, empty-held}
 use Rattle.partial_frame.proofs.Reach.{reach-sound, filled-held}
+use Rattle.service.proofs.Memory.{view-shown}
 use Rattle.service.proofs.Simulation.{move-whole, move-on, fresh-whole, whole-none, good-state}
 
 -- the machine from the state of h is the book from h
@@ -80,44 +84,61 @@ unfolding keptBytes
 kept-all f k = rw k refl
 
 -- the answer to a whole frame, by what is held for it
-pub answer-kept : (f : List ℕ) → length f ≤ 2 + bodyLength f → answerTo (bodyLength f) (take (filled (frameOf f)) (placesOf (keptBytes f))) ≡ answerOf f
+pub answer-kept : (v : View) (f : List ℕ) → length f ≤ 2 + bodyLength f → answerBy v (bodyLength f) (bodyIn (frameOf f)) ≡ answerWith v f
 unfolding answerOf placesOf
-answer-kept f l = go (kept (bodyLength f)) refl
+answer-kept v f l = go (kept (bodyLength f)) refl
   where
-    go : (t : Bool) → kept (bodyLength f) ≡ t → answerTo (bodyLength f) (take (filled (frameOf f)) (placesOf (keptBytes f))) ≡ answerOf f
+    go : (t : Bool) → kept (bodyLength f) ≡ t → answerBy v (bodyLength f) (bodyIn (frameOf f)) ≡ answerWith v f
     go true k =
-        ap (answerTo (bodyLength f))
+        ap (answerBy v (bodyLength f))
         (ap (λ (n : ℕ). take n (placesOf (keptBytes f))) (filled-held f)
         ∙ take-padded longestBody (keptBytes f) (omega (arith, filled-held f, filled-most f l))
         ∙ kept-all f k)
-    go false k = answer-by-length (bodyLength f) (take (filled (frameOf f)) (placesOf (keptBytes f))) (drop 2 f) k
+    go false k = answer-by-length (v .counts) (bodyLength f) (bodyIn (frameOf f)) (drop 2 f) k
+
+-- and what is shown after it
+pub view-kept : (v : View) (f : List ℕ) → length f ≤ 2 + bodyLength f → viewBy v (bodyLength f) (bodyIn (frameOf f)) ≡ viewWith v f
+unfolding answerOf
+view-kept v f l = ap (λ (a : Answer). record { counts = shownNext (a .number) (v .counts) }) (answer-kept v f l)
 
 module _ (s : State) (p buffer : List ℕ) where
   pub take-small : isSmall buffer ≡ true → takeOf s p buffer ≡ untouched 6 s buffer
-  unfolding takeOf isGood bookOf
+  unfolding takeOf
   take-small e = rw e refl
 
-  pub take-bad : isSmall buffer ≡ false → isLeft (s .frame) ≡ false → takeOf s p buffer ≡ untouched 7 s buffer
-  unfolding takeOf isGood bookOf
+  pub take-bad : isSmall buffer ≡ false → isGood s ≡ false → takeOf s p buffer ≡ untouched 7 s buffer
+  unfolding takeOf
   take-bad e f = rw (e, f) refl
 
 module _ (s : State) (buffer : List ℕ) where
   pub close-small : isSmall buffer ≡ true → closeOf s buffer ≡ untouched 6 s buffer
-  unfolding closeOf isGood bookOf
+  unfolding closeOf
   close-small e = rw e refl
 
-  pub close-bad : isSmall buffer ≡ false → isLeft (s .frame) ≡ false → closeOf s buffer ≡ untouched 7 s buffer
-  unfolding closeOf isGood bookOf
+  pub close-bad : isSmall buffer ≡ false → isGood s ≡ false → closeOf s buffer ≡ untouched 7 s buffer
+  unfolding closeOf
   close-bad e f = rw (e, f) refl
 
--- a state that some run of bytes leaves is that of a book, which is unfinished
-pub shown-by : (s : State) → length (s .frame .body) ≡ longestBody → isLeft (s .frame) ≡ true → (s ≡ stateOf (bookOf s)) × (whole (bookOf s .held) ≡ false)
-unfolding bookOf
-shown-by s l e = let h = reach-sound (s .frame) l e in (ap (λ (x : PartialFrame). stateWith x (viewIn s)) (h .1), h .0)
+-- a good state is that of a book, which is unfinished
+pub shown-by : (s : State) → length (s .frame .body) ≡ longestBody → Sized (s .view) → isGood s ≡ true → (s ≡ stateOf (bookOf s)) × (whole (bookOf s .held) ≡ false)
+unfolding isGood bookOf
+shown-by s l z e =
+    let g = and-true (isLeft (s .frame)) (isView (s .view)) e in
+    let h = reach-sound (s .frame) l (g .0) in
+    ((λ i. stateWith (h .1 i) (view-shown (s .view) z (g .1) i)), h .0)
 
 module _ (s : State) (shown : s ≡ stateOf (bookOf s)) (unfinished : whole (bookOf s .held) ≡ false) where
   pub state-short : wholeIn (s .frame) ≡ false
   state-short = ap (λ (x : State). wholeIn (x .frame)) shown ∙ sym (whole-held (bookOf s .held)) ∙ unfinished
+
+  abbrev c : Memory
+  c = bookOf s .memory
+
+  view : viewOf c ≡ s .view
+  view = sym (ap (λ (x : State). x .view) shown)
+
+  good : isGood s ≡ true
+  good = ap isGood shown ∙ good-state (bookOf s) unfinished
 
   module _ (p buffer : List ℕ) where
     abbrev m : Moved
@@ -141,26 +162,28 @@ module _ (s : State) (shown : s ≡ stateOf (bookOf s)) (unfinished : whole (boo
       large : isSmall buffer ≡ false
       large = le-ltb (length buffer) answerRoom room
 
-      good : isGood s ≡ true
-      good = ap isGood shown ∙ good-state (bookOf s) unfinished
-
       pub take-waiting : {q : Progress} → q ≡ advance (s .frame) p → q .whole ≡ false
-          → takeOf s p buffer ≡ record { used = q .used; len = 0; number = 0; state = record { frame = q .frame }; buffer = buffer }
+          → takeOf s p buffer ≡ record { used = q .used; len = 0; number = 0; state = stateWith (q .frame) (s .view); buffer = buffer }
       unfolding takeOf
       take-waiting {q} h w =
           let a : q ≡ shownBy m = h ∙ advanced in
           let v : whole (m .held) ≡ false = sym (ap (λ (x : Progress). x .whole) a) ∙ w in
-          rw (large, good, v) (ap (λ (x : Progress). record { used = x .used; len = 0; number = 0; state = record { frame = x .frame }; buffer = buffer }) (sym a))
+          rw (large, good, v) (λ i. record { used = sym a i .used; len = 0; number = 0; state = stateWith (sym a i .frame) (view i); buffer = buffer })
 
       pub take-whole : {q : Progress} → q ≡ advance (s .frame) p → q .whole ≡ true
-          → takeOf s p buffer ≡ record { used = q .used; len = length (answerIn (q .frame) .bytes); number = answerIn (q .frame) .number; state = freshState; buffer = answerIn (q .frame) .bytes ++ drop (length (answerIn (q .frame) .bytes)) buffer }
+          → let a = answerBy (s .view) (lengthIn (q .frame)) (bodyIn (q .frame)) in
+          takeOf s p buffer ≡ record { used = q .used; len = length (a .bytes); number = a .number; state = stateWith emptyFrame (viewBy (s .view) (lengthIn (q .frame)) (bodyIn (q .frame))); buffer = a .bytes ++ drop (length (a .bytes)) buffer }
       unfolding takeOf
       take-whole {q} h w =
+          let f = m .held in
           let a : q ≡ shownBy m = h ∙ advanced in
-          let v : whole (m .held) ≡ true = sym (ap (λ (x : Progress). x .whole) a) ∙ w in
-          let b : answerOf (m .held) ≡ answerIn (q .frame) = sym (ap (λ (x : Progress). answerIn (x .frame)) a ∙ answer-kept (m .held) past) in
+          let v : whole f ≡ true = sym (ap (λ (x : Progress). x .whole) a) ∙ w in
+          let b : answerWith (viewOf c) f ≡ answerBy (s .view) (lengthIn (q .frame)) (bodyIn (q .frame)) =
+          ap (λ (x : View). answerWith x f) view ∙ sym (ap (λ (x : Progress). answerBy (s .view) (lengthIn (x .frame)) (bodyIn (x .frame))) a ∙ answer-kept (s .view) f past) in
+          let d : viewOf (remembered f (answerWith (viewOf c) f) c) ≡ viewBy (s .view) (lengthIn (q .frame)) (bodyIn (q .frame)) =
+          view-after f c ∙ ap (λ (x : View). viewWith x f) view ∙ sym (ap (λ (x : Progress). viewBy (s .view) (lengthIn (x .frame)) (bodyIn (x .frame))) a ∙ view-kept (s .view) f past) in
           rw (large, good, v)
-          (λ i. record { used = sym a i .used; len = length (b i .bytes); number = b i .number; state = fresh-whole i; buffer = b i .bytes ++ drop (length (b i .bytes)) buffer })
+          (λ i. record { used = sym a i .used; len = length (b i .bytes); number = b i .number; state = stateWith (empty-held i) (d i); buffer = b i .bytes ++ drop (length (b i .bytes)) buffer })
 
 -- the two parts of a contract, from an equation of replies
 pub taken-by : {x y : Reply} → y ≡ x → (takenOf x ≡ takenOf y) × (x .buffer ≡ y .buffer)
@@ -169,26 +192,31 @@ taken-by e = (ap takenOf (sym e), ap (λ (r : Reply). r .buffer) (sym e))
 pub closed-by : {x y : Reply} → y ≡ x → (closedOf x ≡ closedOf y) × (x .buffer ≡ y .buffer)
 closed-by e = (ap closedOf (sym e), ap (λ (r : Reply). r .buffer) (sym e))
 
-held-none : (n : ℕ) (s : PartialFrame) → n ≡ 0 → closedWith (firstBytes n s) tt ≡ record { used = 0; answer = []; number = 0; book = record { held = []; memory = tt } }
-held-none n s e = rw e refl
+held-none : (n : ℕ) (s : PartialFrame) (c : Memory) → n ≡ 0 → closedWith (firstBytes n s) c ≡ record { used = 0; answer = []; number = 0; book = emptied c }
+held-none n s c e = rw e refl
 
-held-some : (n : ℕ) (s : PartialFrame) → (n ≡ 0 → ⊥) → closedWith (firstBytes n s) tt ≡ record { used = 0; answer = refusalFrame 8; number = 8; book = record { held = []; memory = tt } }
-held-some zero s e = absurd (e refl)
-held-some (suc zero) s e = refl
-held-some (suc (suc n)) s e = refl
+held-some : (n : ℕ) (s : PartialFrame) (c : Memory) → (n ≡ 0 → ⊥) → closedWith (firstBytes n s) c ≡ record { used = 0; answer = refusalFrame 8; number = 8; book = emptied c }
+held-some zero s c e = absurd (e refl)
+held-some (suc zero) s c e = refl
+held-some (suc (suc n)) s c e = refl
 
-module _ (s : State) (buffer : List ℕ) (e : isSmall buffer ≡ false) (r : isLeft (s .frame) ≡ true) where
-  pub close-none : s .frame .count ≡ 0 → closeOf s buffer ≡ record { used = 0; len = 0; number = 0; state = freshState; buffer = buffer }
-  unfolding closeOf isGood bookOf bytesIn
+module _ (s : State) (shown : s ≡ stateOf (bookOf s)) (buffer : List ℕ) (e : isSmall buffer ≡ false) (r : isGood s ≡ true) where
+  after : stateOf (emptied (bookOf s .memory)) ≡ stateWith emptyFrame (s .view)
+  after = λ i. stateWith (empty-held i) (sym shown i .view)
+
+  pub close-none : s .frame .count ≡ 0 → closeOf s buffer ≡ record { used = 0; len = 0; number = 0; state = stateWith emptyFrame (s .view); buffer = buffer }
+  unfolding closeOf bookOf bytesIn
   close-none z =
-      rw (e, r) (ap (λ (x : Entry). replyOf x buffer) (held-none (s .frame .count) (s .frame) z) ∙ ap (λ (x : State). record { used = 0; len = 0; number = 0; state = x; buffer = buffer }) fresh-whole)
+      rw (e, r)
+      (ap (λ (x : Entry). replyOf x buffer) (held-none (s .frame .count) (s .frame) (bookOf s .memory) z)
+      ∙ ap (λ (x : State). record { used = 0; len = 0; number = 0; state = x; buffer = buffer }) after)
 
-  pub close-some : (s .frame .count ≡ 0 → ⊥) → closeOf s buffer ≡ record { used = 0; len = 4; number = 8; state = freshState; buffer = refusalFrame 8 ++ drop 4 buffer }
-  unfolding closeOf isGood bookOf bytesIn
+  pub close-some : (s .frame .count ≡ 0 → ⊥) → closeOf s buffer ≡ record { used = 0; len = 4; number = 8; state = stateWith emptyFrame (s .view); buffer = refusalFrame 8 ++ drop 4 buffer }
+  unfolding closeOf bookOf bytesIn
   close-some z =
       rw (e, r)
-      (ap (λ (x : Entry). replyOf x buffer) (held-some (s .frame .count) (s .frame) z)
-      ∙ ap (λ (x : State). record { used = 0; len = 4; number = 8; state = x; buffer = refusalFrame 8 ++ drop 4 buffer }) fresh-whole)
+      (ap (λ (x : Entry). replyOf x buffer) (held-some (s .frame .count) (s .frame) (bookOf s .memory) z)
+      ∙ ap (λ (x : State). record { used = 0; len = 4; number = 8; state = x; buffer = refusalFrame 8 ++ drop 4 buffer }) after)
 
 -- a close writes four bytes at most
 closed-most : (h : List ℕ) (c : Memory) → length (closedWith h c .answer) ≤ 4
@@ -207,6 +235,6 @@ close-most s buffer {r} q = rw (ap (λ (x : Closed). x .len) q) (go (isSmall buf
 pub fresh-good : isGood freshState ≡ true
 fresh-good = ap isGood (sym fresh-whole) ∙ good-state emptyBook whole-none
 
--- the same answer, written
-pub written-as : {a b : Answer} {r : Answered} {before after : List ℕ} → a ≡ b → Written a r before after → Written b r before after
-written-as {a} {b} {r} {before} {after} e w = subst (λ (x : Answer). Written x r before after) e w
+-- the same body, answered
+pub answered-as : {v : View} {n k : ℕ} {body whole before after : List ℕ} {r : Answered} → n ≡ k → body ≡ whole → Answers v n body r before after → Answers v k whole r before after
+answered-as {v} {n} {k} {body} {whole} {before} {after} {r} e f a = subst₂ (λ (x : ℕ) (y : List ℕ). Answers v x y r before after) e f a

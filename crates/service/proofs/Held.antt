@@ -7,6 +7,7 @@ use native.Mathlib.Omega.{arith}
 use lib.ListN.{length, drop}
 use Rattle.frames.specs.Frame.{bodyLength, kept}
 use Rattle.frames.proofs.Refusals.{kept-bounds}
+use Rattle.counts.specs.declared.Counts.{Counts}
 use Rattle.answers.specs.Answers.{answerTo, answerOf}
 use Rattle.answers.proofs.Answers.{answer-by-length}
 use Rattle.partial_frame.specs.State.{frameOf, bytesIn, lengthIn}
@@ -14,16 +15,16 @@ use Rattle.partial_frame.specs.declared.PartialFrame.{PartialFrame}
 use Rattle.partial_frame.proofs.Held.{recover}
 
 -- whole frames that leave one state get one answer
-pub answer-held : (f g : List ℕ) → frameOf f ≡ frameOf g → length f ≤ 2 + bodyLength f → answerOf f ≡ answerOf g
+pub answer-held : (c : Counts) (f g : List ℕ) → frameOf f ≡ frameOf g → length f ≤ 2 + bodyLength f → answerOf c f ≡ answerOf c g
 unfolding answerOf
-answer-held f g e i = go (kept (bodyLength f)) refl
+answer-held c f g e i = go (kept (bodyLength f)) refl
   where
     same-length : bodyLength f ≡ bodyLength g
     same-length = ap lengthIn e
 
-    go : (t : Bool) → kept (bodyLength f) ≡ t → answerOf f ≡ answerOf g
+    go : (t : Bool) → kept (bodyLength f) ≡ t → answerOf c f ≡ answerOf c g
     go true k =
         let m = kept-bounds (bodyLength f) k in
         let n : length f ≡ length g = ap (λ (s : PartialFrame). s .count) e in
-        ap answerOf (sym (recover f k (omega arith)) ∙ ap bytesIn e ∙ recover g (rw (← same-length) k) (omega arith))
-    go false k = answer-by-length (bodyLength f) (drop 2 f) (drop 2 g) k ∙ ap (λ (n : ℕ). answerTo n (drop 2 g)) same-length
+        ap (answerOf c) (sym (recover f k (omega arith)) ∙ ap bytesIn e ∙ recover g (rw (← same-length) k) (omega arith))
+    go false k = answer-by-length c (bodyLength f) (drop 2 f) (drop 2 g) k ∙ ap (λ (n : ℕ). answerTo c n (drop 2 g)) same-length

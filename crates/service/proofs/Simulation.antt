@@ -9,10 +9,11 @@ use lib.ListN.{length, drop}
 use Rattle.frames.specs.Frame.{bodyLength, whole}
 use Rattle.answers.specs.Answers.{Answer}
 use Rattle.partial_frame.specs.State.{frameOf, bytesIn}
-use Rattle.service.specs.Memory.{Memory, View, startMemory, viewOf, stateWith, answerWith}
+use Rattle.memory.specs.Memory.{Memory, startMemory, viewOf, answerWith}
+use Rattle.memory.specs.declared.View.{View}
 use Rattle.partial_frame.specs.declared.PartialFrame.{PartialFrame}
 use Rattle.service.proofs.Memory.{answer-alike, remembered-alike, view-recalled, view-good}
-use Rattle.service.specs.Book.{Book, emptyBook, stateOf, Take, Entry, Moved, Reply, move, oneMore, settled, answeredBy, bookTake, bookCall, replyOf, isSmall}
+use Rattle.service.specs.Book.{Book, emptyBook, stateWith, stateOf, Take, Entry, Moved, Reply, move, oneMore, settled, answeredBy, bookTake, bookCall, replyOf, isSmall}
 use Rattle.service.specs.Service.{freshState, isGood, bookOf, takeOf}
 use Rattle.partial_frame.specs.Steps.{afterByte, wholeIn}
 use Rattle.service.specs.declared.State.{State}

@@ -1,4 +1,5 @@
--- The plain book (document 01): it is fed the calls with their pieces and buffers, and sees no state. Definitions only.
+-- The plain book (document 01): it is fed the calls with their pieces and buffers, and sees no state. What it remembers of its answers is in
+-- crates/memory/specs/Memory.antt. Definitions only.
 use Prim.Native.Nat.{ℕ, suc}
 use mathlib.Core.List.{List, [], _∷_, _++_}
 use mathlib.Core.Bool.{Bool, cond}
@@ -7,7 +8,9 @@ use lib.Dec.{ltb}
 use Rattle.frames.specs.Frame.{answerRoom, whole, refusalFrame}
 use Rattle.answers.specs.Answers.{Answer}
 use Rattle.partial_frame.specs.State.{frameOf}
-use Rattle.service.specs.Memory.{Memory, startMemory, viewOf, stateWith, answerWith, remembered}
+use Rattle.partial_frame.specs.declared.PartialFrame.{PartialFrame}
+use Rattle.memory.specs.Memory.{Memory, startMemory, viewOf, answerWith, remembered}
+use Rattle.memory.specs.declared.View.{View}
 use Rattle.service.specs.declared.State.{State}
 
 pub data Call : Type 0 where
@@ -99,7 +102,10 @@ pub record Reply : Type 0 where
   pub state : State
   pub buffer : List ℕ
 
--- the state for the bytes in the book
+abbrev pub stateWith : PartialFrame → View → State
+stateWith frame v = record { frame = frame; view = v }
+
+-- the state for the bytes in the book, and for what it remembers
 abbrev pub stateOf : Book → State
 stateOf b = stateWith (frameOf (b .held)) (viewOf (b .memory))
 

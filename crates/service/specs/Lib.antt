@@ -1,4 +1,3 @@
-pub mod Memory
 pub mod Book
 pub mod Service
 pub mod Whole

@@ -3,8 +3,8 @@ use Prim.Native.Nat.{ℕ}
 use mathlib.Core.List.{List, [], _∷_}
 use mathlib.Core.Bool.{Bool, cond, _&&_}
 use Rattle.partial_frame.specs.State.{emptyFrame, bytesIn, isLeft}
-use Rattle.service.specs.Memory.{startMemory, viewOf, recalled, viewIn, isView, stateWith}
-use Rattle.service.specs.Book.{Book, Call, Take, Close, Reply, replyOf, bookTake, bookClose, isSmall}
+use Rattle.memory.specs.Memory.{startMemory, viewOf, recalled, isView}
+use Rattle.service.specs.Book.{Book, Call, Take, Close, Reply, stateWith, replyOf, bookTake, bookClose, isSmall}
 use Rattle.service.specs.declared.State.{State}
 use Rattle.service.specs.declared.Taken.{Taken}
 use Rattle.service.specs.declared.Closed.{Closed}
@@ -14,10 +14,10 @@ freshState = stateWith emptyFrame (viewOf startMemory)
 
 -- a state that some book leaves, and such a book
 unfoldable pub isGood : State → Bool
-isGood s = isLeft (s .frame) && isView (viewIn s)
+isGood s = isLeft (s .frame) && isView (s .view)
 
 unfoldable pub bookOf : State → Book
-bookOf s = record { held = bytesIn (s .frame); memory = recalled (viewIn s) }
+bookOf s = record { held = bytesIn (s .frame); memory = recalled (s .view) }
 
 -- refusals 6 and 7: state and buffer are handed back untouched
 abbrev pub untouched : ℕ → State → List ℕ → Reply

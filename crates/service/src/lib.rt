@@ -8,12 +8,14 @@ ghost use mathlib.Core.Bool.{false};
 ghost use Prim.Native.Nat.{_≤_};
 ghost use lib.ListN.{length};
 ghost use Rattle.frames.specs.Frame.{answerRoom, whole};
-ghost use Rattle.answers.specs.Written.{Written};
-ghost use Rattle.service.specs.Book.{stateOf};
-ghost use Rattle.service.specs.Service.{freshState, bookOf, takeOf, closeOf, takenOf, closedOf};
-ghost use Rattle.service.specs.Whole.{Whole, answerIn};
-use answers::Answered;
+ghost use Rattle.partial_frame.specs.State.{emptyFrame, lengthIn};
+ghost use Rattle.memory.specs.Answers.{Answers};
+ghost use Rattle.service.specs.Book.{stateWith, stateOf};
+ghost use Rattle.service.specs.Service.{freshState, isGood, bookOf, takeOf, closeOf, takenOf, closedOf};
+ghost use Rattle.service.specs.Whole.{Whole, bodyIn};
 use frames::ANSWER_ROOM;
+use memory::Answered;
+use memory::View;
 use partial_frame::PartialFrame;
 
 // What a call is refused by, where its caller brings it about.
@@ -27,6 +29,7 @@ const UNFINISHED: u8 = 8;
 #[repr(C)]
 pub struct State {
     pub frame: PartialFrame,
+    pub view: View,
 }
 
 // What take returns; the refusal is a number or 0.
@@ -46,21 +49,38 @@ pub struct Closed {
     pub refusal: u8,
 }
 
+// Between frames.
+pub fn between(view: View) -> State
+    ensures { λ r. ⌜ r ≡ stateWith emptyFrame view ⌝ }
+{
+    let frame = partial_frame::no_frame();
+    State { frame, view }
+}
+
 pub fn fresh() -> State
     ensures { λ r. ⌜ r ≡ freshState ⌝ }
 {
-    let frame = partial_frame::no_frame();
-    State { frame }
+    between(memory::start())
+}
+
+// Whether some book leaves the state.
+pub fn is_good(state: State) -> bool
+    ensures { λ r. ⌜ r ≡ isGood state ⌝ }
+{
+    if partial_frame::is_left(state.frame) {
+        return memory::is_view(state.view);
+    }
+    false
 }
 
 // Answers the frame that is whole.
-fn answer_whole(frame: PartialFrame, answer: &mut [u8]) -> Answered
+fn answer_whole(view: View, frame: PartialFrame, answer: &mut [u8]) -> Answered
     requires { ⌜ Whole frame × (answerRoom ≤ length (now answer)) ⌝ }
-    ensures { λ r. ⌜ Written (answerIn frame) r (now (answer .entry)) (now (answer .exit)) ⌝ }
+    ensures { λ r. ⌜ Answers view (lengthIn frame) (bodyIn frame) r (now (answer .entry)) (now (answer .exit)) ⌝ }
 {
     let n = partial_frame::filled_places(frame);
     let body = frame.body;
-    answers::respond(partial_frame::body_length(frame), &body[..n], answer)
+    memory::respond(view, partial_frame::body_length(frame), &body[..n], answer)
 }
 
 // take, where neither 6 nor 7 refuses it.
@@ -68,11 +88,12 @@ fn take_good(state: State, piece: &[u8], answer: &mut [u8]) -> Taken
     requires { ⌜ (state ≡ stateOf (bookOf state)) × (whole (bookOf state .held) ≡ false) × (answerRoom ≤ length (now answer)) ⌝ }
     ensures { λ r. ⌜ (r ≡ takenOf (takeOf state (now (piece .entry)) (now (answer .entry)))) × (now (answer .exit) ≡ takeOf state (now (piece .entry)) (now (answer .entry)) .buffer) ⌝ }
 {
+    let view = state.view;
     let progress = pieces::take_bytes(state.frame, piece);
     let frame = progress.frame;
     if progress.whole {
-        let answered = answer_whole(frame, answer);
-        let state = fresh();
+        let answered = answer_whole(view, frame, answer);
+        let state = between(answered.view);
         return Taken {
             state,
             used: progress.used,
@@ -80,7 +101,7 @@ fn take_good(state: State, piece: &[u8], answer: &mut [u8]) -> Taken
             refusal: answered.refusal,
         };
     }
-    let state = State { frame };
+    let state = State { frame, view };
     Taken {
         state,
         used: progress.used,
@@ -101,7 +122,7 @@ pub fn take(state: State, piece: &[u8], answer: &mut [u8]) -> Taken
             refusal: SMALL_BUFFER,
         };
     }
-    if partial_frame::is_left(state.frame) {
+    if is_good(state) {
         return take_good(state, piece, answer);
     }
     Taken {
@@ -112,7 +133,7 @@ pub fn take(state: State, piece: &[u8], answer: &mut [u8]) -> Taken
     }
 }
 
-// Ends the stream: an unfinished frame is refused, and the service is fresh.
+// Ends the stream: an unfinished frame is refused, and the service is fresh but for what lasts.
 pub fn close(state: State, answer: &mut [u8]) -> Closed
     ensures { λ r. ⌜ (r ≡ closedOf (closeOf state (now (answer .entry)))) × (now (answer .exit) ≡ closeOf state (now (answer .entry)) .buffer) ⌝ }
 {
@@ -123,9 +144,9 @@ pub fn close(state: State, answer: &mut [u8]) -> Closed
             refusal: SMALL_BUFFER,
         };
     }
-    let frame = state.frame;
-    if partial_frame::is_left(frame) {
-        let state = fresh();
+    if is_good(state) {
+        let frame = state.frame;
+        let state = between(state.view);
         if frame.count == 0 {
             return Closed {
                 state,

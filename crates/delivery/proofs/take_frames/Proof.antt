@@ -102,23 +102,26 @@ answer-run-requires c κs = tt
 abbrev take-of : tie.After-answer-run Inv-loop μ-loop → tie.After-take Inv-loop μ-loop
 take-of r = r .before .before .before .before .before .before .before .before .before .before
 
+between-requires : tie.Need-between-requires Inv-loop μ-loop
+between-requires c κs = tt
+
 add-used-2 : tie.Need-add-used-2 Inv-loop μ-loop
 add-used-2 c =
-    let r = c .before .before .before in
+    let r = c .before .before .before .before in
     let t = took (take-of r) in
-    omega (arith, start-of (take-of r) .good .1 .0 .0, going-run (t .going) (t .emptied (r .before .before .before .if2 .taken)) (r .answer-run .result) _ (r .answer-run .ensures) .within)
+    omega (arith, start-of (take-of r) .good .1 .0 .0, going-run (t .going) (t .no-frame (r .before .before .before .if2 .taken)) (r .answer-run .result) _ (r .answer-run .ensures) (c .before .between .ensures) .within)
 
 loop-again : tie.Need-loop-again Inv-loop μ-loop
 loop-again c =
-    let r = c .before .before .before .before in
+    let r = c .before .before .before .before .before in
     let t = took (take-of r) in
-    going-run (t .going) (t .emptied (r .before .before .before .if2 .taken)) (r .answer-run .result) _ (r .answer-run .ensures)
+    going-run (t .going) (t .no-frame (r .before .before .before .if2 .taken)) (r .answer-run .result) _ (r .answer-run .ensures) (c .before .before .between .ensures)
 
 add-len-2 : tie.Need-add-len-2 Inv-loop μ-loop
-add-len-2 c = omega (arith, start-of (take-of (c .before .before .before .before)) .good .1 .1 .0 .0, loop-again c .room)
+add-len-2 c = omega (arith, start-of (take-of (c .before .before .before .before .before)) .good .1 .1 .0 .0, loop-again c .room)
 
 loop-less : tie.Need-loop-less Inv-loop μ-loop
-loop-less c = let t = take-of (c .before .before .before .before) in omega (arith, t .before .before .before .before .loop-test .taken, took t .some)
+loop-less c = let t = take-of (c .before .before .before .before .before) in omega (arith, t .before .before .before .before .loop-test .taken, took t .some)
 
 same-length-2 : tie.Need-same-length-2 Inv-loop μ-loop
 same-length-2 c = out-length (c .before .loop .inv)
@@ -152,6 +155,7 @@ take-frames-spec =
     part-answer-run-start-2
     part-answer-run-end-2
     answer-run-requires
+    between-requires
     add-used-2
     add-len-2
     loop-less

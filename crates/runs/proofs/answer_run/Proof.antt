@@ -10,13 +10,13 @@ use Rattle.runs.proofs.answer_run.Statement.{statement}
 use Rattle.runs.proofs.answer_run.Tie as tie
 
 abbrev Inv-loop : tie.InvT-loop
-Inv-loop piece answers₀ used₀ len₀ answers used len = Answers piece (record { used = used; len = len }) answers₀ answers
+Inv-loop piece answers₀ view₀ used₀ len₀ answers view used len = Answers view₀ piece (record { view = view; used = used; len = len }) answers₀ answers
 
 abbrev μ-loop : tie.MeasureT-loop
-μ-loop piece answers₀ used₀ len₀ answers used len = length piece - used
+μ-loop piece answers₀ view₀ used₀ len₀ answers view used len = length piece - used
 
 loop-holds : tie.Need-loop-holds Inv-loop μ-loop
-loop-holds c = no-frames _ _
+loop-holds c = no-frames _ _ _
 
 sub-loop : tie.Need-sub-loop Inv-loop μ-loop
 sub-loop c = omega arith
@@ -51,26 +51,26 @@ returns-2 c = c .before .before .before .before .loop .inv
 add-to : tie.Need-add-to Inv-loop μ-loop
 add-to c = omega arith
 
-sub-answer-frame : tie.Need-sub-answer-frame Inv-loop μ-loop
-sub-answer-frame c = omega arith
+sub-respond : tie.Need-sub-respond Inv-loop μ-loop
+sub-respond c = omega arith
 
-part-answer-frame-start : tie.Need-part-answer-frame-start Inv-loop μ-loop
-part-answer-frame-start c = omega arith
+part-respond-start : tie.Need-part-respond-start Inv-loop μ-loop
+part-respond-start c = omega arith
 
-part-answer-frame-end : tie.Need-part-answer-frame-end Inv-loop μ-loop
-part-answer-frame-end c = omega arith
+part-respond-end : tie.Need-part-respond-end Inv-loop μ-loop
+part-respond-end c = omega arith
 
-sub-answer-frame-2 : tie.Need-sub-answer-frame-2 Inv-loop μ-loop
-sub-answer-frame-2 c = omega (arith, run-length (c .before .before .before .before .before .loop .inv))
+sub-respond-2 : tie.Need-sub-respond-2 Inv-loop μ-loop
+sub-respond-2 c = omega (arith, run-length (c .before .before .before .before .before .loop .inv))
 
-part-answer-frame-start-2 : tie.Need-part-answer-frame-start-2 Inv-loop μ-loop
-part-answer-frame-start-2 c = omega (arith, run-length (c .before .before .before .before .before .loop .inv))
+part-respond-start-2 : tie.Need-part-respond-start-2 Inv-loop μ-loop
+part-respond-start-2 c = omega (arith, run-length (c .before .before .before .before .before .loop .inv))
 
-part-answer-frame-end-2 : tie.Need-part-answer-frame-end-2 Inv-loop μ-loop
-part-answer-frame-end-2 c = omega arith
+part-respond-end-2 : tie.Need-part-respond-end-2 Inv-loop μ-loop
+part-respond-end-2 c = omega arith
 
-answer-frame-requires : tie.Need-answer-frame-requires Inv-loop μ-loop
-answer-frame-requires c κs =
+respond-requires : tie.Need-respond-requires Inv-loop μ-loop
+respond-requires c κs =
     let r = c .before .before .before in
     let l = r .before .before .before in
     let s = l .loop in
@@ -78,11 +78,11 @@ answer-frame-requires c κs =
 
 loop-again : tie.Need-loop-again Inv-loop μ-loop
 loop-again c =
-    let r = c .before .before .before .before .before .before in
-    one-more-frame (r .before .before .before .loop .inv) (r .read-u16 .result) (omega arith) (r .read-u16 .ensures) (r .before .if1 .left) _ _ (c .before .before .answer-frame .ensures)
+    let r = c .before .before .before .before .before .before .before .before in
+    one-more-frame (r .before .before .before .loop .inv) (r .read-u16 .result) (omega arith) (r .read-u16 .ensures) (r .before .if1 .left) _ _ (c .before .before .before .before .respond .ensures)
 
 add-len : tie.Need-add-len Inv-loop μ-loop
-add-len c = omega (arith, c .before .before .before .before .before .before .before .before .before .before .before .before .good .1 .0 .0, loop-again c .fits)
+add-len c = omega (arith, c .before .before .before .before .before .before .before .before .before .before .before .before .before .before .good .1 .1 .0 .0, loop-again c .fits)
 
 loop-less : tie.Need-loop-less Inv-loop μ-loop
 loop-less c = omega arith
@@ -111,13 +111,13 @@ answer-run-spec =
     same-length-2
     returns-2
     add-to
-    sub-answer-frame
-    part-answer-frame-start
-    part-answer-frame-end
-    sub-answer-frame-2
-    part-answer-frame-start-2
-    part-answer-frame-end-2
-    answer-frame-requires
+    sub-respond
+    part-respond-start
+    part-respond-end
+    sub-respond-2
+    part-respond-start-2
+    part-respond-end-2
+    respond-requires
     add-len
     loop-less
     loop-again

@@ -1,10 +1,10 @@
 -- `service::answer_whole` meets its contract. Assumes nothing.
-use Rattle.service.proofs.Calls.{written-as}
 use mathlib.Core.Path.{sym, ap, _∙_}
 use native.Mathlib.Omega.{arith}
 use lib.ListN.{take, length-take}
 use Rattle.frames.specs.Frame.{kept}
-use Rattle.answers.specs.Answers.{answerTo}
+use Prim.Native.Nat.{ℕ}
+use Rattle.service.proofs.Calls.{answered-as}
 use borrow.Author.Needs.{needs}
 use Rattle.service.proofs.answer_whole.Statement.{statement}
 use Rattle.service.proofs.answer_whole.Tie as tie
@@ -33,7 +33,7 @@ same-length c = search needs
 returns : tie.Need-returns
 returns c =
     let s = c .before .before .before .before .before .before .before .before .before .args in
-    written-as (λ j. answerTo (c .before .before .before .before .before .body-length .ensures .0 j) (take (c .before .before .before .before .before .before .before .filled-places .ensures j) (s .frame .body))) (c .before .before .respond .ensures)
+    answered-as (c .before .before .before .before .before .body-length .ensures .0) (ap (λ (n : ℕ). take n (s .frame .body)) (c .before .before .before .before .before .before .before .filled-places .ensures)) (c .before .before .respond .ensures)
 
 pub answer-whole-spec : {M : Type 1} → statement M
 answer-whole-spec =

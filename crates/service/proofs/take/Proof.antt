@@ -3,6 +3,8 @@ use mathlib.Core.Path.{_≡_, sym, _∙_}
 use lib.ListN.{length, length-map}
 use borrow.Author.Tests.{lt-ltb, le-ltb}
 use Rattle.frames.specs.Frame.{longestBody, answerRoom}
+use Rattle.memory.specs.Memory.{Sized}
+use native.Mathlib.Omega.{arith}
 use Rattle.service.proofs.Calls.{shown-by, take-small, take-bad, taken-by}
 use borrow.Author.Needs.{needs}
 use Rattle.service.proofs.take.Statement.{statement}
@@ -13,14 +15,15 @@ returns c =
     let s = c .before .before .before .args in
     taken-by (take-small (s .state) (s .piece .now) (s .answer .now) (lt-ltb (length (s .answer .now)) answerRoom (c .if1 .taken)))
 
-is-left-requires : tie.Need-is-left-requires
-is-left-requires c κs = search needs
+is-good-requires : tie.Need-is-good-requires
+is-good-requires c κs = search needs
 
 take-good-requires : tie.Need-take-good-requires
 take-good-requires c κs =
     let s = c .before .before .before .before .before .before in
+    let z : Sized (s .args .state .view) = record { accepted = omega (arith, s .good); refused = omega (arith, s .good) } in
     let l : length (s .args .state .frame .body) ≡ longestBody = sym (length-map (s .args .state .frame .body) _) ∙ s .good .0 .1 .1 .0 .1 .1 .1 .1 .1 .0 .1 .0 .1 in
-    let b = shown-by (s .args .state) l (sym (c .before .before .is-left .ensures) ∙ c .before .if2 .taken) in
+    let b = shown-by (s .args .state) l z (sym (c .before .before .is-good .ensures) ∙ c .before .if2 .taken) in
     (b .0, b .1, c .before .before .before .if1 .left)
 
 same-length : tie.Need-same-length
@@ -32,10 +35,9 @@ returns-2 c = search needs
 returns-3 : tie.Need-returns-3
 returns-3 c =
     let s = c .before .before .before .before .before .args in
-    taken-by
-    (take-bad (s .state) (s .piece .now) (s .answer .now) (le-ltb (length (s .answer .now)) answerRoom (c .before .before .if1 .left)) (sym (c .before .is-left .ensures) ∙ c .if2 .left))
+    taken-by (take-bad (s .state) (s .piece .now) (s .answer .now) (le-ltb (length (s .answer .now)) answerRoom (c .before .before .if1 .left)) (sym (c .before .is-good .ensures) ∙ c .if2 .left))
 
 pub take-spec : {M : Type 1} → statement M
 take-spec =
     tie.close
-    (tie.spec returns is-left-requires take-good-requires same-length returns-2 returns-3)
+    (tie.spec returns is-good-requires take-good-requires same-length returns-2 returns-3)
