@@ -9,18 +9,19 @@ use lib.ListN.{length, take, drop, length-drop, take-append-drop}
 use Rattle.frames.specs.Frame.{longestBody, whole}
 use Rattle.frames.proofs.Refusals.{Senders}
 use Rattle.partial_frame.specs.State.{frameOf, isLeft}
-use Rattle.service.specs.Memory.{Memory, viewOf}
-use Rattle.service.specs.Book.{Book, emptyBook, Call, Take, Close, Entry, Moved, Reply, move, settled, bookTake, closedWith, bookCall, bookReplies, isSmall}
-use Rattle.service.specs.Service.{isGood, bookOf, untouched, takeOf, closeOf, serviceRun}
+use Rattle.memory.specs.Memory.{Memory, viewOf, Sized, isView}
+use Rattle.service.specs.Book.{Book, emptyBook, stateWith, Call, Take, Close, Entry, Moved, Reply, move, settled, bookTake, closedWith, bookCall, bookReplies, isSmall}
+use Rattle.service.specs.Service.{freshState, isGood, bookOf, takeOf, serviceRun}
 use Rattle.demands.specs.Stream.{Item, byte, joined, joinedFrom, movedBy, pointsOf, answersFrom, written}
 use Rattle.demands.specs.Demands.{Demand1, Demand3, Unreached, AllLarge, handedOn, bookAfter, SameAnswers, run}
 use Rattle.service.specs.declared.State.{State}
-use Rattle.service.proofs.Memory.{answer-number, none-shows}
+use Rattle.service.proofs.Memory.{answer-number}
 use Rattle.service.proofs.Simulation.{uses-some, fresh-whole, whole-none, take-book}
-use Rattle.demands.proofs.Simulation.{close-book, run-book, after-fresh, reply-after}
+use Rattle.demands.proofs.Simulation.{close-book, run-book, after-append, after-fresh, reply-after}
 use Rattle.demands.proofs.Streams.{written-points, fresh-after, held-rest}
+use Rattle.demands.proofs.Reports.{only-reports}
 use Rattle.demands.proofs.Isolation.{alike-blanked, same-answers}
-use Rattle.service.proofs.Calls.{shown-by}
+use Rattle.service.proofs.Calls.{shown-by, take-bad, close-bad}
 use Rattle.demands.proofs.Partition.{part-right, part-unique}
 
 -- ---- the numbers
@@ -93,24 +94,26 @@ demand-3 =
       partition = λ cs. part-right (joined cs);
       onlyPartition = λ cs. part-unique (joined cs);
       answers = as-answers;
-      fresh = λ cs c n. ap (λ (r : Reply). r .state) (reply-after cs c) ∙ fresh-after cs c emptyBook whole-none n;
+      fresh = λ cs c n.
+          ap (λ (r : Reply). r .state) (reply-after cs c)
+          ∙ fresh-after cs c emptyBook whole-none n
+          ∙ ap (λ (b : Book). stateWith (freshState .frame) (viewOf (b .memory))) (sym (after-append cs (c ∷ []) emptyBook));
       held = λ cs. ap (λ (s : State). s .frame) (after-fresh cs) ∙ ap frameOf (held-rest cs emptyBook whole-none);
       isolated = λ cs ds a. subst₂ (SameAnswers (pointsOf cs) (pointsOf ds)) (sym (as-answers cs)) (sym (as-answers ds)) (same-answers (emptyBook .memory) (emptyBook .memory) a);
       alike = λ cs ds. alike-blanked (joined cs) (joined ds);
-      noneShows = none-shows;
+      reports = only-reports;
       handed = λ cs piece buffers a l.
           joined-append cs (handedOn (bookAfter emptyBook cs) piece buffers) emptyBook ∙ ap (λ (i : List Item). joined cs ++ i) (handed-all buffers (bookAfter emptyBook cs) piece a l);
     }
 
 -- ---- demand 1
 
-not-good : (s : State) → length (s .frame .body) ≡ longestBody → Unreached s → isGood s ≡ false
-unfolding isGood bookOf
-not-good s l n = go (isLeft (s .frame)) refl
+not-good : (s : State) → length (s .frame .body) ≡ longestBody → Sized (s .view) → Unreached s → isGood s ≡ false
+not-good s l z n = go (isGood s) refl
   where
-    go : (t : Bool) → isLeft (s .frame) ≡ t → isGood s ≡ false
-    go true e = let h = shown-by s l e in absurd (n (bookOf s) (h .1) (h .0))
-    go false e = rw e refl
+    go : (t : Bool) → isGood s ≡ t → isGood s ≡ false
+    go true e = let h = shown-by s l z e in absurd (n (bookOf s) (h .1) (h .0))
+    go false e = e
 
 uses-one : (s : State) (x : ℕ) (p buffer : List ℕ) → takeOf s (x ∷ p) buffer .number ≢ 6 → takeOf s (x ∷ p) buffer .number ≢ 7 → 1 ≤ takeOf s (x ∷ p) buffer .used
 unfolding takeOf
@@ -137,21 +140,15 @@ uses-none s buffer = go (isSmall buffer) (isGood s) refl refl
     go false true e f = rw (e, f) (settled-none (bookOf s .held) (bookOf s .memory))
     go false false e f = rw (e, f) refl
 
-take-refuses : (s : State) (p buffer : List ℕ) → isGood s ≡ false → isSmall buffer ≡ false → takeOf s p buffer ≡ untouched 7 s buffer
-unfolding takeOf
-take-refuses s p buffer g e = rw (e, g) refl
-
-close-refuses : (s : State) (buffer : List ℕ) → isGood s ≡ false → isSmall buffer ≡ false → closeOf s buffer ≡ untouched 7 s buffer
-unfolding closeOf
-close-refuses s buffer g e = rw (e, g) refl
-
 pub demand-1 : Demand1
 demand-1 =
     record {
-      takeRefuses = λ s p buffer l n e. take-refuses s p buffer (not-good s l n) e;
-      closeRefuses = λ s buffer l n e. close-refuses s buffer (not-good s l n) e;
+      takeRefuses = λ s p buffer l z n e. take-bad s p buffer e (not-good s l z n);
+      closeRefuses = λ s buffer l z n e. close-bad s buffer e (not-good s l z n);
       take = take-book;
       close = close-book;
+      onward = λ b cs w. run-book cs b w;
+      sameOnward = λ b c cs v w e. sym (run-book cs b v) ∙ ap (λ (s : State). serviceRun s cs) e ∙ run-book cs c w;
       never7 = book-never-7;
       uses = uses-one;
       usesNone = uses-none;

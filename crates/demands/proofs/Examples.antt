@@ -1,23 +1,29 @@
--- Worked examples, computed: document 01's whole case; two lists of calls that differ inside bodies alone; states that no run of bytes
--- leaves, and one that some run leaves. Assumes nothing.
+-- Worked examples, computed: document 01's whole case; two lists of calls that differ inside bodies alone, with reports; what they count;
+-- states that no book leaves, and one that some book leaves. Assumes nothing.
 use Prim.Native.Nat.{ℕ, zero, suc, _+_, _≤_}
 use mathlib.Core.Path.{_≡_, refl, ap}
 use mathlib.Core.List.{List, [], _∷_, _++_, map, cons≢nil}
+use mathlib.Core.Bool.{true}
 use native.Mathlib.Omega.{arith}
 use lib.ListN.{length, getD, drop, replicate}
 use lib.Ieee.{ofBits, toBits}
 use borrow.Author.Tests.{leb-false}
 use Rattle.words.specs.Bytes.{numberAt, wordBytes}
 use Rattle.exp2m1.specs.Score.{steps, scoreBits}
+use Rattle.counts.specs.Counts.{isRefused, most, stopped, isSum, reportOf}
+use Rattle.counts.specs.declared.Counts.{Counts}
 use Rattle.frames.specs.Frame.{answerRoom, bodyLength, whole, kept, isKind, kindOf, badPayload, refusalTo, refusalFrame}
-use Rattle.answers.specs.Answers.{resultAt, resultsOf, accepted, answerTo, answerOf}
+use Rattle.answers.specs.Answers.{resultAt, resultsOf, accepted, answerTo, answerOf, isReport}
+use Rattle.memory.specs.Memory.{Sized, showsMemory}
+use Rattle.memory.specs.declared.View.{View}
 use Rattle.partial_frame.specs.State.{keptBytes, placesOf, isLeft, bytesIn}
-use Rattle.service.specs.Book.{Book, emptyBook, stateOf, Call, Take, Close, Reply, bookCall, replyOf}
-use Rattle.service.specs.Service.{freshState, isGood, bookOf, untouched, takeOf, closeOf}
+use Rattle.service.specs.Book.{Book, emptyBook, stateWith, Call, Take, Close, Reply, bookCall, bookReplies, replyOf}
+use Rattle.service.specs.Service.{freshState, isGood, bookOf, untouched, takeOf, closeOf, stateAfter}
 use Rattle.demands.specs.Stream.{byte, joined, pointsOf, written}
-use Rattle.demands.specs.Demands.{run, replyAfter, handedOn, AllLarge, blanked, Alike, SameAnswers, Unreached}
+use Rattle.demands.specs.Demands.{report, run, replyAfter, handedOn, AllLarge, blanked, Alike, SameAnswers, Unreached}
 use Rattle.service.specs.declared.State.{State}
 use Rattle.demands.proofs.Demands.{demand-1, demand-3}
+use Rattle.demands.proofs.Counts.{counts}
 
 -- an answer buffer of 516 bytes
 abbrev room : List ℕ
@@ -34,21 +40,29 @@ input = one 1 1 0xc0 0x4b ++ (0 ∷ 0 ∷ 0 ∷ [])
 abbrev wholeCase : List Call
 wholeCase = handedOn emptyBook input (replicate 15 room) ++ (Close room ∷ [])
 
--- weights -54, 1024 and -54; kind 3 with a direction byte alone; an unfinished frame; closed twice; a frame with no body
-abbrev sent : List Call
-sent =
+-- weights -54, 1024 and -54; kind 3 with a direction byte alone; a report; an unfinished frame; closed twice; a frame with no body; a report
+-- with a payload
+abbrev before : List Call
+before =
     Take (one 1 1 0xc0 0x4b) room
     ∷ Take (one 1 1 0x40 0x90) room
     ∷ Take (one 1 1 0xc0 0x4b) room
     ∷ Take (0 ∷ 3 ∷ 1 ∷ 3 ∷ 0 ∷ []) room
+    ∷ []
+
+abbrev sent : List Call
+sent =
+    before
+    ++ (Take report room
     ∷ Take (0 ∷ 10 ∷ 1 ∷ []) room
     ∷ Close room
     ∷ Close room
     ∷ Take (0 ∷ 0 ∷ []) room
-    ∷ []
+    ∷ Take (0 ∷ 3 ∷ 1 ∷ 4 ∷ 0 ∷ []) room
+    ∷ [])
 
 -- 1024 became a NaN, the version of the third frame 255, the direction byte 4, and the third byte of the unfinished frame 7; the first frame
--- comes in two pieces, the second with a byte too many, and before the last frame a take is refused by 6
+-- comes in two pieces, the second with a byte too many, and before the frame with no body a take is refused by 6
 abbrev damaged : List Call
 damaged =
     Take (0 ∷ 10 ∷ 1 ∷ []) room
@@ -56,34 +70,60 @@ damaged =
     ∷ Take (one 1 1 0x7f 0xff) room
     ∷ Take (one 0xff 1 0xc0 0x4b) room
     ∷ Take (0 ∷ 3 ∷ 1 ∷ 3 ∷ 4 ∷ []) room
+    ∷ Take report room
     ∷ Take (0 ∷ 10 ∷ 7 ∷ []) room
     ∷ Close room
     ∷ Close room
     ∷ Take (0 ∷ 0 ∷ []) []
     ∷ Take (0 ∷ 0 ∷ []) room
+    ∷ Take (0 ∷ 3 ∷ 1 ∷ 4 ∷ 0 ∷ []) room
     ∷ []
 
 -- used count, answer length and number
 abbrev figures : Reply → List ℕ
 figures r = r .used ∷ r .len ∷ r .number ∷ []
 
+-- a report's answer with numbers under 256
+abbrev reported : ℕ → ℕ → ℕ → List ℕ
+reported a r t = 0 ∷ 26 ∷ 1 ∷ 0 ∷ (replicate 7 0 ++ (a ∷ (replicate 7 0 ++ (r ∷ (replicate 7 0 ++ (t ∷ []))))))
+
 pub replies :
     (written (run wholeCase) ≡ one 1 0 0xbf 0xf0 ∷ refusalFrame 1 ∷ refusalFrame 8 ∷ [])
-    × (written (run sent) ≡ one 1 0 0xbf 0xf0 ∷ one 1 0 0x7f 0xf0 ∷ one 1 0 0xbf 0xf0 ∷ refusalFrame 5 ∷ refusalFrame 8 ∷ refusalFrame 1 ∷ [])
-    × (written (run damaged) ≡ one 1 0 0xbf 0xf0 ∷ one 1 0 0x7f 0xf8 ∷ refusalFrame 3 ∷ refusalFrame 11 ∷ refusalFrame 8 ∷ refusalFrame 1 ∷ [])
+    × (written (run sent)
+    ≡ one 1 0 0xbf 0xf0
+    ∷ one 1 0 0x7f 0xf0
+    ∷ one 1 0 0xbf 0xf0
+    ∷ refusalFrame 5
+    ∷ reported 3 1 4
+    ∷ refusalFrame 8
+    ∷ refusalFrame 1
+    ∷ refusalFrame 5
+    ∷ [])
+    × (written (run damaged)
+    ≡ one 1 0 0xbf 0xf0
+    ∷ one 1 0 0x7f 0xf8
+    ∷ refusalFrame 3
+    ∷ refusalFrame 11
+    ∷ reported 2 2 4
+    ∷ refusalFrame 8
+    ∷ refusalFrame 1
+    ∷ refusalFrame 5
+    ∷ [])
     × (map figures (run damaged)
     ≡ (3 ∷ 0 ∷ 0 ∷ [])
     ∷ (9 ∷ 12 ∷ 0 ∷ [])
     ∷ (12 ∷ 12 ∷ 0 ∷ [])
     ∷ (12 ∷ 4 ∷ 3 ∷ [])
     ∷ (5 ∷ 4 ∷ 11 ∷ [])
+    ∷ (4 ∷ 28 ∷ 0 ∷ [])
     ∷ (3 ∷ 0 ∷ 0 ∷ [])
     ∷ (0 ∷ 4 ∷ 8 ∷ [])
     ∷ (0 ∷ 0 ∷ 0 ∷ [])
     ∷ (0 ∷ 0 ∷ 6 ∷ [])
     ∷ (2 ∷ 4 ∷ 1 ∷ [])
+    ∷ (5 ∷ 4 ∷ 5 ∷ [])
     ∷ [])
-unfolding takeOf closeOf isGood bookOf isLeft bytesIn placesOf keptBytes whole kept refusalTo isKind kindOf badPayload resultAt resultsOf accepted answerTo answerOf scoreBits steps ofBits toBits numberAt wordBytes
+unfolding takeOf closeOf isGood bookOf isLeft bytesIn placesOf keptBytes whole kept refusalTo isKind kindOf badPayload resultAt resultsOf accepted answerTo answerOf scoreBits steps ofBits toBits numberAt wordBytes isRefused stopped isSum reportOf
 replies = (refl, refl, refl, refl)
 
 -- ---- demand 3
@@ -106,17 +146,58 @@ pub both-same : SameAnswers (pointsOf sent) (pointsOf damaged) (written (run sen
 both-same = demand-3 .isolated sent damaged both-alike
 
 -- after a frame that is refused, and after a close on nothing
-pub fresh-refused : replyAfter [] (Take (0 ∷ 0 ∷ []) room) .state ≡ freshState
-unfolding whole
+abbrev counting : ℕ → ℕ → ℕ → View
+counting accepted refused total = record { counts = record { accepted = accepted; refused = refused; total = total } }
+
+pub fresh-refused : replyAfter [] (Take (0 ∷ 0 ∷ []) room) .state ≡ stateWith (freshState .frame) (counting 0 1 1)
+unfolding whole refusalTo answerTo answerOf isRefused stopped
 fresh-refused = demand-3 .fresh [] (Take (0 ∷ 0 ∷ []) room) (λ e. cons≢nil e)
 
 pub fresh-closed : replyAfter [] (Close room) .state ≡ freshState
 fresh-closed = demand-3 .fresh [] (Close room) (λ e. cons≢nil e)
 
+-- the one frame whose answer differs in both
+pub report-shows : showsMemory report ≡ true
+unfolding isReport refusalTo isKind kindOf badPayload
+report-shows = refl
+
+pub one-report : report ≡ report
+one-report = demand-3 .reports report refl report-shows
+
+-- ---- the counts
+
+-- after all of it 4 accepted, the report too, and 3 refused; the report had what came before it
+pub counted-sent : (stateAfter freshState sent .view ≡ counting 4 3 7) × (written (replyAfter before (Take report room) ∷ []) ≡ reported 3 1 4 ∷ [])
+unfolding takeOf closeOf isGood bookOf isLeft bytesIn placesOf keptBytes whole kept refusalTo isKind kindOf badPayload resultAt resultsOf accepted answerTo answerOf scoreBits steps ofBits toBits numberAt wordBytes isRefused stopped isSum reportOf
+counted-sent = (
+  ap (λ (c : Counts). record { counts = c }) (counts .states sent),
+  counts .reports before (Take report room) refl,
+)
+
+-- a total that is one too great is refused, with a frame begun and without; right ones are 7 or not by the frame, whatever the numbers
+abbrev stateAt : ℕ → ℕ → ℕ → State
+stateAt count hi lo = record { frame = record { count = count; hi = hi; lo = lo; body = placesOf [] }; view = counting 0 0 0 }
+
+pub total-refused : (piece : List ℕ) → takeOf (stateWith (stateAt 0 0 0 .frame) (counting 2 3 6)) piece room ≡ untouched 7 (stateWith (stateAt 0 0 0 .frame) (counting 2 3 6)) room
+unfolding stopped
+total-refused piece = counts .wrongTotal (stateWith (stateAt 0 0 0 .frame) (counting 2 3 6)) (Take piece room) refl (λ e. omega arith)
+
+pub numbers-aside : closeOf (stateWith (stateAt 2 0 0 .frame) (counting 2 3 5)) room .number ≡ 7
+unfolding stopped closeOf isGood isLeft isSum placesOf kept
+numbers-aside = counts .aside (stateAt 2 0 0) (stateWith (stateAt 2 0 0 .frame) (counting 2 3 5)) (Close room) refl refl refl refl
+
+-- books that have counted to the end and far past it give the same replies
+abbrev countedTo : ℕ → Book
+countedTo n = record { held = 0 ∷ []; memory = record { accepted = n; refused = 0 } }
+
+pub past-the-end : (cs : List Call) → bookReplies (countedTo most) cs ≡ bookReplies (countedTo 36893488147419103232) cs
+unfolding whole stopped
+past-the-end cs = demand-1 .sameOnward (countedTo most) (countedTo 36893488147419103232) cs refl refl refl
+
 -- ---- demand 1
 
-abbrev stateAt : ℕ → ℕ → ℕ → State
-stateAt count hi lo = record { frame = record { count = count; hi = hi; lo = lo; body = placesOf [] } }
+small : Sized (counting 0 0 0)
+small = record { accepted = omega arith; refused = omega arith }
 
 -- the second length byte is there before it came
 early-unreached : Unreached (stateAt 1 0 1)
@@ -129,7 +210,7 @@ early-unreached b w e = go (b .held) (ap (λ (s : State). s .frame .count) e) (a
 
 pub early-refused : (piece : List ℕ) → takeOf (stateAt 1 0 1) piece room ≡ untouched 7 (stateAt 1 0 1) room
 unfolding placesOf
-early-refused piece = demand-1 .takeRefuses (stateAt 1 0 1) piece room refl early-unreached refl
+early-refused piece = demand-1 .takeRefuses (stateAt 1 0 1) piece room refl small early-unreached refl
 
 -- a whole frame
 whole-unreached : Unreached (stateAt 2 0 0)
@@ -142,11 +223,11 @@ whole-unreached b w e =
 
 pub whole-refused : closeOf (stateAt 2 0 0) room ≡ untouched 7 (stateAt 2 0 0) room
 unfolding placesOf
-whole-refused = demand-1 .closeRefuses (stateAt 2 0 0) room refl whole-unreached refl
+whole-refused = demand-1 .closeRefuses (stateAt 2 0 0) room refl small whole-unreached refl
 
 -- the first length byte has come, and the second ends a frame
-pub second-byte : takeOf (stateAt 1 0 0) (0 ∷ 5 ∷ []) room ≡ record { used = 1; len = 4; number = 1; state = freshState; buffer = refusalFrame 1 ++ drop 4 room }
-unfolding takeOf isGood bookOf isLeft bytesIn placesOf keptBytes whole kept refusalTo answerTo answerOf
+pub second-byte : takeOf (stateAt 1 0 0) (0 ∷ 5 ∷ []) room ≡ record { used = 1; len = 4; number = 1; state = stateWith (freshState .frame) (counting 0 1 1); buffer = refusalFrame 1 ++ drop 4 room }
+unfolding takeOf isGood bookOf isLeft bytesIn placesOf keptBytes whole kept refusalTo answerTo answerOf isRefused stopped isSum
 second-byte = refl
 
 -- by the theorem, for the run of that one byte
@@ -154,11 +235,11 @@ abbrev begun : Book
 begun = record { held = 0 ∷ []; memory = emptyBook .memory }
 
 pub begun-takes : (piece : List ℕ) → takeOf (stateAt 1 0 0) piece room ≡ replyOf (bookCall begun (Take piece room)) room
-unfolding whole placesOf keptBytes kept
+unfolding whole placesOf keptBytes kept stopped
 begun-takes piece = demand-1 .take begun piece room refl
 
 pub begun-closes : closeOf (stateAt 1 0 0) room ≡ replyOf (bookCall begun (Close room)) room
-unfolding whole placesOf keptBytes kept
+unfolding whole placesOf keptBytes kept stopped
 begun-closes = demand-1 .close begun room refl
 
 pub begun-uses : 1 ≤ takeOf (stateAt 1 0 0) (0 ∷ 5 ∷ []) room .used

@@ -8,7 +8,7 @@ use native.Mathlib.Omega.{arith}
 use lib.ListN.{length, take, length-append}
 use borrow.Author.Tests.{lt-leb, le-leb}
 use Rattle.frames.specs.Frame.{whole}
-use Rattle.service.specs.Memory.{Memory, viewOf, answerWith, remembered, showsMemory}
+use Rattle.memory.specs.Memory.{Memory, viewOf, answerWith, remembered, showsMemory}
 use Rattle.service.proofs.Memory.{answer-apart}
 use Rattle.demands.specs.Stream.{Item, byte, closing, Point, frame, closed, partedFrom, answersFrom}
 use Rattle.demands.specs.Demands.{Place, first, second, inside, toCome, blankedFrom, Alike, SameAnswers}

@@ -6,8 +6,8 @@ use mathlib.Core.Bool.{Bool, true, false}
 use lib.ListN.{drop}
 use Rattle.frames.specs.Frame.{whole, refusalFrame}
 use Rattle.partial_frame.specs.State.{frameOf, bytesIn}
-use Rattle.service.specs.Memory.{Memory, viewOf, stateWith}
-use Rattle.service.specs.Book.{Book, emptyBook, stateOf, Call, Take, Close, Reply, move, closedWith, bookCall, replyOf, bufferOf, bookReplies, isSmall}
+use Rattle.memory.specs.Memory.{Memory, viewOf}
+use Rattle.service.specs.Book.{Book, emptyBook, stateWith, stateOf, Call, Take, Close, Reply, move, closedWith, bookCall, replyOf, bufferOf, bookReplies, isSmall}
 use Rattle.service.specs.Service.{freshState, bookOf, closeOf, serviceCall, serviceRun, stateAfter}
 use Rattle.service.specs.declared.State.{State}
 use Rattle.service.proofs.Memory.{view-recalled}
@@ -58,6 +58,10 @@ run-book [] h n = refl
 run-book (c ∷ cs) h n =
     ap (λ (r : Reply). r ∷ serviceRun (r .state) cs) (call-book c h n)
     ∙ ap {B = List Reply} (λ l. replyOf (bookCall h c) (bufferOf c) ∷ l) (run-book cs (bookCall h c .book) (held-short c h n))
+
+pub after-append : (cs ds : List Call) (b : Book) → bookAfter b (cs ++ ds) ≡ bookAfter (bookAfter b cs) ds
+after-append [] ds b = refl
+after-append (c ∷ cs) ds b = after-append cs ds (bookCall b c .book)
 
 pub after-unfinished : (cs : List Call) (b : Book) → whole (b .held) ≡ false → whole (bookAfter b cs .held) ≡ false
 after-unfinished [] b n = n

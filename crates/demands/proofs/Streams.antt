@@ -2,15 +2,15 @@
 use Prim.Native.Nat.{ℕ}
 use mathlib.Core.Path.{_≡_, refl, sym, ap, ap₂, _∙_}
 use mathlib.Core.Logic.{_≢_}
-use mathlib.Core.List.{List, [], _∷_, _++_, map, append-nil}
+use mathlib.Core.List.{List, [], _∷_, _++_, map, append-assoc, append-nil}
 use mathlib.Core.Bool.{Bool, true, false, cond}
 use lib.ListN.{take}
 use lib.Seq.{take-append-seam}
 use Rattle.frames.specs.Frame.{whole, refusalFrame}
-use Rattle.service.specs.Memory.{Memory, viewOf, stateWith, answerWith, remembered}
-use Rattle.service.proofs.Memory.{answer-some, fresh-with}
+use Rattle.memory.specs.Memory.{Memory, viewOf, answerWith, remembered}
+use Rattle.service.proofs.Memory.{answer-some}
 use Rattle.partial_frame.specs.declared.PartialFrame.{PartialFrame}
-use Rattle.service.specs.Book.{Book, stateOf, emptied, Call, Take, Close, Moved, move, answered, closedWith, bookCall, replyOf, bufferOf, bookReplies, isSmall}
+use Rattle.service.specs.Book.{Book, stateWith, stateOf, emptied, Call, Take, Close, Moved, move, answered, closedWith, bookCall, replyOf, bufferOf, bookReplies, isSmall}
 use Rattle.demands.specs.Stream.{Item, byte, movedBy, joinedFrom, Point, frame, closed, Parts, onePoint, partedFrom, answersFrom, writtenBy, written}
 use Rattle.service.specs.Service.{freshState}
 use Rattle.demands.specs.Demands.{bookAfter}
@@ -37,7 +37,7 @@ close-held [] c = refl
 close-held (b ∷ h) c = refl
 
 -- the points of one call
-abbrev pointsBy : Book → Call → List Point
+abbrev pub pointsBy : Book → Call → List Point
 pointsBy h (Take p buffer) = cond (isSmall buffer) [] (cond (whole (move (h .held) p .held)) (frame (move (h .held) p .held) ∷ []) [])
 pointsBy h (Close buffer) = cond (isSmall buffer) [] (closed (h .held) ∷ [])
 
@@ -58,7 +58,7 @@ part-call (Close buffer) h is n = go (isSmall buffer) refl
     go false e = rw (e, close-held (h .held) (h .memory)) refl
 
 -- the memory behind some points
-abbrev memoryAfter : Memory → List Point → Memory
+abbrev pub memoryAfter : Memory → List Point → Memory
 memoryAfter c [] = c
 memoryAfter c (frame f ∷ ps) = memoryAfter (remembered f (answerWith (viewOf c) f) c) ps
 memoryAfter c (closed h ∷ ps) = memoryAfter c ps
@@ -69,6 +69,11 @@ answers-append (frame f ∷ ps) qs c =
     ap {B = List (List ℕ)} (λ l. answerWith (viewOf c) f .bytes ∷ l) (answers-append ps qs (remembered f (answerWith (viewOf c) f) c))
 answers-append (closed [] ∷ ps) qs c = answers-append ps qs c
 answers-append (closed (b ∷ h) ∷ ps) qs c = ap {B = List (List ℕ)} (λ l. refusalFrame 8 ∷ l) (answers-append ps qs c)
+
+memory-append : (ps qs : List Point) (c : Memory) → memoryAfter c (ps ++ qs) ≡ memoryAfter (memoryAfter c ps) qs
+memory-append [] qs c = refl
+memory-append (frame f ∷ ps) qs c = memory-append ps qs (remembered f (answerWith (viewOf c) f) c)
+memory-append (closed h ∷ ps) qs c = memory-append ps qs c
 
 memory-call : (c : Call) (h : Book) → memoryAfter (h .memory) (pointsBy h c) ≡ bookCall h c .book .memory
 memory-call (Take p buffer) h = go (isSmall buffer) (whole (move (h .held) p .held)) refl refl
@@ -83,7 +88,7 @@ memory-call (Close buffer) h = go (isSmall buffer) refl
     go true e = rw e refl
     go false e = rw (e, close-held (h .held) (h .memory)) refl
 
-written-call : (c : Call) (h : Book) → writtenBy (replyOf (bookCall h c) (bufferOf c)) ≡ answersFrom (h .memory) (pointsBy h c)
+pub written-call : (c : Call) (h : Book) → writtenBy (replyOf (bookCall h c) (bufferOf c)) ≡ answersFrom (h .memory) (pointsBy h c)
 written-call (Take p buffer) h = go (isSmall buffer) (whole (move (h .held) p .held)) refl refl
   where
     go : (s t : Bool) → isSmall buffer ≡ s → whole (move (h .held) p .held) ≡ t → writtenBy (replyOf (bookCall h (Take p buffer)) buffer) ≡ answersFrom (h .memory) (pointsBy h (Take p buffer))
@@ -112,22 +117,25 @@ written-points (c ∷ cs) h n =
     ∙ sym (answers-append (pointsBy h c) ps (h .memory))
     ∙ sym (ap (λ (q : Parts). answersFrom (h .memory) (q .points)) (part-call c h (joinedFrom b cs) n))
 
--- a book that holds no byte shows the fresh state
-emptied-fresh : (m : Memory) → stateOf (emptied m) ≡ freshState
-emptied-fresh m = ap (λ (s : PartialFrame). stateWith s (viewOf m)) empty-held ∙ fresh-with m
+-- a book that holds no byte shows the fresh state but for what it remembers
+abbrev FreshBut : Book → Type 0
+FreshBut b = stateOf b ≡ stateWith (freshState .frame) (viewOf (b .memory))
 
-fresh-call : (c : Call) (h : Book) → pointsBy h c ≢ [] → stateOf (bookCall h c .book) ≡ freshState
+emptied-fresh : (m : Memory) → FreshBut (emptied m)
+emptied-fresh m = ap (λ (s : PartialFrame). stateWith s (viewOf m)) empty-held
+
+fresh-call : (c : Call) (h : Book) → pointsBy h c ≢ [] → FreshBut (bookCall h c .book)
 fresh-call (Take p buffer) h = go (isSmall buffer) (whole (move (h .held) p .held)) refl refl
   where
-    go : (s t : Bool) → isSmall buffer ≡ s → whole (move (h .held) p .held) ≡ t → pointsBy h (Take p buffer) ≢ [] → stateOf (bookCall h (Take p buffer) .book) ≡ freshState
+    go : (s t : Bool) → isSmall buffer ≡ s → whole (move (h .held) p .held) ≡ t → pointsBy h (Take p buffer) ≢ [] → FreshBut (bookCall h (Take p buffer) .book)
     go true t e f = rw e (λ z. absurd (z refl))
     go false true e f = rw (e, f) (λ z. emptied-fresh (answered (move (h .held) p) (h .memory) .book .memory))
     go false false e f = rw (e, f) (λ z. absurd (z refl))
 fresh-call (Close buffer) h = go (isSmall buffer) refl
   where
-    go : (t : Bool) → isSmall buffer ≡ t → pointsBy h (Close buffer) ≢ [] → stateOf (bookCall h (Close buffer) .book) ≡ freshState
+    go : (t : Bool) → isSmall buffer ≡ t → pointsBy h (Close buffer) ≢ [] → FreshBut (bookCall h (Close buffer) .book)
     go true e = rw e (λ z. absurd (z refl))
-    go false e = rw e (λ z. ap stateOf (close-held (h .held) (h .memory)) ∙ emptied-fresh (h .memory))
+    go false e = rw (e, close-held (h .held) (h .memory)) (λ z. emptied-fresh (h .memory))
 
 abbrev pointsFrom : Book → List Call → List Point
 pointsFrom h cs = partedFrom (h .held) (joinedFrom h cs) .points
@@ -137,7 +145,7 @@ points-cons c cs h n = ap (λ (q : Parts). q .points) (part-call c h (joinedFrom
 
 -- a call that adds a point leaves a book that holds no byte
 pub fresh-after : (cs : List Call) (c : Call) (h : Book) → whole (h .held) ≡ false → pointsFrom h (cs ++ (c ∷ [])) ≢ pointsFrom h cs
-    → stateOf (bookCall (bookAfter h cs) c .book) ≡ freshState
+    → FreshBut (bookCall (bookAfter h cs) c .book)
 fresh-after [] c h n z = fresh-call c h (λ e. z (points-cons c [] h n ∙ append-nil (pointsBy h c) ∙ e))
 fresh-after (d ∷ cs) c h n z =
     let b = bookCall h d .book in
@@ -150,3 +158,23 @@ held-rest [] h n = refl
 held-rest (c ∷ cs) h n =
     held-rest cs (bookCall h c .book) (held-short c h n)
     ∙ sym (ap (λ (q : Parts). q .rest) (part-call c h (joinedFrom (bookCall h c .book) cs) n))
+
+-- and remembers what its points leave
+pub memory-points : (cs : List Call) (h : Book) → whole (h .held) ≡ false → bookAfter h cs .memory ≡ memoryAfter (h .memory) (pointsFrom h cs)
+memory-points [] h n = refl
+memory-points (c ∷ cs) h n =
+    let b = bookCall h c .book in
+    memory-points cs b (held-short c h n)
+    ∙ ap (λ (m : Memory). memoryAfter m (pointsFrom b cs)) (sym (memory-call c h))
+    ∙ sym (memory-append (pointsBy h c) (pointsFrom b cs) (h .memory))
+    ∙ sym (ap (memoryAfter (h .memory)) (points-cons c cs h n))
+
+-- a call adds its points behind those of the calls before it
+pub points-behind : (cs : List Call) (c : Call) (h : Book) → whole (h .held) ≡ false → pointsFrom h (cs ++ (c ∷ [])) ≡ pointsFrom h cs ++ pointsBy (bookAfter h cs) c
+points-behind [] c h n = points-cons c [] h n ∙ append-nil (pointsBy h c)
+points-behind (d ∷ cs) c h n =
+    let b = bookCall h d .book in
+    points-cons d (cs ++ (c ∷ [])) h n
+    ∙ ap (λ (ps : List Point). pointsBy h d ++ ps) (points-behind cs c b (held-short d h n))
+    ∙ sym (append-assoc (pointsBy h d) (pointsFrom b cs) (pointsBy (bookAfter b cs) c))
+    ∙ ap (λ (ps : List Point). ps ++ pointsBy (bookAfter b cs) c) (sym (points-cons d cs h n))

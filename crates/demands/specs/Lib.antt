@@ -1,2 +1,3 @@
 pub mod Stream
 pub mod Demands
+pub mod Counts

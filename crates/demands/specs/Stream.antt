@@ -7,7 +7,7 @@ use mathlib.Core.Bool.{false, cond}
 use lib.ListN.{length, take}
 use lib.Dec.{eqb}
 use Rattle.frames.specs.Frame.{bodyLength, whole, refusalFrame}
-use Rattle.service.specs.Memory.{Memory, viewOf, answerWith, remembered}
+use Rattle.memory.specs.Memory.{Memory, viewOf, answerWith, remembered}
 use Rattle.service.specs.Book.{Book, emptyBook, Call, Take, Close, Entry, Reply, bookCall, isSmall}
 
 -- ---- the joined bytes

@@ -118,20 +118,26 @@ good-length n b e = go (ltb n 2) (ltb longestBody n) refl refl
     go false true f g = let z : _≡_ {A = ℕ} 2 0 = rw (f, g) at e in absurd (omega arith)
     go false false f g = (ltb-false n 2 f, ltb-false longestBody n g)
 
--- and a payload with whole items
-pub good-payload : (n : ℕ) (b : List ℕ) → refusalTo n b ≡ 0 → badPayload (getD b 1 0) (n - 2) ≡ false
+-- and version 1 and a payload that its kind has
+good-parts : (n : ℕ) (b : List ℕ) → refusalTo n b ≡ 0 → (eqb (getD b 0 0) 1 ≡ true) × (badPayload (getD b 1 0) (n - 2) ≡ false)
 unfolding refusalTo
-good-payload n b e =
+good-parts n b e =
     go (ltb n 2) (ltb longestBody n) (eqb (getD b 0 0) 1) (isKind (getD b 1 0)) (kindOf (getD b 1 0) .own (drop 2 b)) (badPayload (getD b 1 0) (n - 2)) e
   where
-    go : (s t v k : Bool) (m : ℕ) (p : Bool) → cond s 1 (cond t 2 (cond (not v) 3 (cond (not k) 4 (orElse m (cond p 5 0))))) ≡ 0 → p ≡ false
+    go : (s t v k : Bool) (m : ℕ) (p : Bool) → cond s 1 (cond t 2 (cond (not v) 3 (cond (not k) 4 (orElse m (cond p 5 0))))) ≡ 0 → (v ≡ true) × (p ≡ false)
     go true t v k m p f = absurd (omega arith)
     go false true v k m p f = absurd (omega arith)
     go false false false k m p f = absurd (omega arith)
     go false false true false m p f = absurd (omega arith)
     go false false true true (suc m) p f = absurd (omega arith)
     go false false true true zero true f = absurd (omega arith)
-    go false false true true zero false f = refl
+    go false false true true zero false f = (refl, refl)
+
+pub good-version : (n : ℕ) (b : List ℕ) → refusalTo n b ≡ 0 → getD b 0 0 ≡ 1
+good-version n b e = eqb-true (getD b 0 0) 1 (good-parts n b e .0)
+
+pub good-payload : (n : ℕ) (b : List ℕ) → refusalTo n b ≡ 0 → badPayload (getD b 1 0) (n - 2) ≡ false
+good-payload n b e = good-parts n b e .1
 
 -- so its items start within it
 either : (s t : Bool) → s || t ≡ false → s ≡ false

@@ -9,8 +9,7 @@ use lib.Seq.{take-append-seam}
 use borrow.Author.Tests.{le-ltb}
 use Rattle.frames.specs.Frame.{answerRoom, whole}
 use Rattle.partial_frame.proofs.Reach.{held-alike, held-unfinished}
-use Rattle.service.specs.Memory.{stateWith}
-use Rattle.service.specs.Book.{Book, Entry, Reply, stateOf, bookTake, replyOf}
+use Rattle.service.specs.Book.{Book, Entry, Reply, stateWith, stateOf, bookTake, replyOf}
 use Rattle.service.specs.Service.{bookOf, takeOf}
 use Rattle.service.specs.declared.State.{State}
 use Rattle.service.proofs.Memory.{view-recalled}

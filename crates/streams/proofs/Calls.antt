@@ -12,6 +12,7 @@ use Rattle.frames.specs.Frame.{answerRoom}
 use Rattle.service.specs.Book.{Book, Call, Take, Entry, Reply, bookTake, bookCall, bookReplies, replyOf, bufferOf, isSmall}
 use Rattle.demands.specs.Stream.{Item, byte, joinedFrom, writtenBy, written}
 use Rattle.demands.specs.Demands.{bookAfter, handedOn, AllLarge}
+use Rattle.demands.proofs.Simulation.{after-append}
 use Rattle.demands.proofs.Demands.{map-append, joined-append}
 use Rattle.delivery.specs.Delivery.{Given, andThen, takes}
 use Rattle.delivery.proofs.Takes.{uses}
@@ -30,10 +31,6 @@ written-append (r ∷ x) y = ap (λ (l : List (List ℕ)). writtenBy r ++ l) (wr
 replies-append : (cs ds : List Call) (b : Book) → bookReplies b (cs ++ ds) ≡ bookReplies b cs ++ bookReplies (bookAfter b cs) ds
 replies-append [] ds b = refl
 replies-append (c ∷ cs) ds b = ap {B = List Reply} (λ l. replyOf (bookCall b c) (bufferOf c) ∷ l) (replies-append cs ds (bookCall b c .book))
-
-pub after-append : (cs ds : List Call) (b : Book) → bookAfter b (cs ++ ds) ≡ bookAfter (bookAfter b cs) ds
-after-append [] ds b = refl
-after-append (c ∷ cs) ds b = after-append cs ds (bookCall b c .book)
 
 -- the answers that the book gave, one after another
 abbrev pub answersTo : Book → List Call → List ℕ

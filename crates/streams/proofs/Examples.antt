@@ -8,9 +8,11 @@ use lib.ListN.{length, take, drop, replicate}
 use lib.Ieee.{ofBits, toBits}
 use Rattle.words.specs.Bytes.{numberAt, wordBytes}
 use Rattle.exp2m1.specs.Score.{steps, scoreBits}
+use Rattle.counts.specs.Counts.{isRefused, stopped, isSum}
 use Rattle.frames.specs.Frame.{answerRoom, whole, kept, isKind, kindOf, badPayload, refusalTo, refusalFrame}
 use Rattle.answers.specs.Answers.{resultAt, resultsOf, accepted, answerTo, answerOf}
 use Rattle.partial_frame.specs.State.{keptBytes, placesOf, isLeft, bytesIn}
+use Rattle.service.specs.Book.{stateWith}
 use Rattle.service.specs.Service.{freshState, isGood, bookOf, closeOf}
 use Rattle.demands.specs.Demands.{AllLarge}
 use Rattle.delivery.specs.Delivery.{deliveryOf, handOn}
@@ -23,7 +25,7 @@ abbrev room : List ℕ
 room = replicate answerRoom 170
 
 abbrev large : List ℕ
-large = replicate 1062 170
+large = replicate 1137 170
 
 -- -54, a frame with no body, and half a length; the answers -1, 1 and 8
 abbrev input : List ℕ
@@ -35,9 +37,9 @@ minusOne = 0 ∷ 10 ∷ 1 ∷ 0 ∷ 0xbf ∷ 0xf0 ∷ 0 ∷ 0 ∷ 0 ∷ 0 ∷ 0 
 -- the program's output, for the input in two pieces; one call with room for one answer stops behind the first frame, for want of room
 pub whole-case :
     (outputOf freshState (take 5 input ∷ drop 5 input ∷ []) room room ≡ minusOne ++ (refusalFrame 1 ++ refusalFrame 8))
-    × ByTakes [] input 12 minusOne freshState
+    × ByTakes [] input 12 minusOne (stateWith (freshState .frame) (record { counts = record { accepted = 1; refused = 0; total = 1 } }))
     × (length room < 12 + answerRoom)
-unfolding handOn deliveryOf closeOf isGood bookOf isLeft bytesIn placesOf keptBytes whole kept refusalTo isKind kindOf badPayload resultAt resultsOf accepted answerTo answerOf scoreBits steps ofBits toBits numberAt wordBytes
+unfolding handOn deliveryOf closeOf isGood bookOf isLeft bytesIn placesOf keptBytes whole kept refusalTo isKind kindOf badPayload resultAt resultsOf accepted answerTo answerOf scoreBits steps ofBits toBits numberAt wordBytes isRefused stopped isSum
 whole-case = (refl, streams .takes [] input room refl, streams .stops [] input room refl (omega arith))
 
 pub large-buffers : AllLarge (whole-case .1 .buffers)

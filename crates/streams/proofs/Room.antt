@@ -1,4 +1,4 @@
--- How long the answers to a piece are: those to the frames that begin in it at most twice as long as it is. Assumes nothing.
+-- How long the answers to a piece are: those to the frames that begin in it at most seven times as long as it is. Assumes nothing.
 use Prim.Native.Nat.{ℕ, zero, suc, _+_, _*_, _-_, _≤_}
 use mathlib.Core.Path.{_≡_, refl, sym, ap, _∙_}
 use mathlib.Core.List.{List, [], _∷_, _++_}
@@ -8,7 +8,7 @@ use lib.ListN.{length, drop, length-append, drop-of-length-le}
 use lib.Dec.{ltb}
 use borrow.Author.Tests.{leb-true}
 use Rattle.frames.specs.Frame.{answerRoom, bodyLength, whole}
-use Rattle.service.specs.Memory.{viewOf}
+use Rattle.memory.specs.Memory.{viewOf}
 use Rattle.service.specs.Book.{Book, Entry, move, bookTake}
 use Rattle.service.proofs.Memory.{answer-length}
 use Rattle.delivery.specs.Delivery.{Given, takes}
@@ -35,7 +35,7 @@ moved-all (b ∷ p) h = go (whole (h ++ (b ∷ []))) refl (moved-all p (h ++ (b 
 
 -- one take: it answers a frame and empties the book, or it takes the whole piece and answers nothing
 data Took (b : Book) (p : List ℕ) (e : Entry) : Type 0 where
-  frame : e .book .held ≡ [] → length (e .answer) ≤ 2 * (length (b .held) + e .used) → Took b p e
+  frame : e .book .held ≡ [] → length (e .answer) ≤ 7 * (length (b .held) + e .used) → Took b p e
   piece : e .answer ≡ [] → length p ≤ e .used → Took b p e
 
 took : (b : Book) (p : List ℕ) → Took b p (bookTake b p)
@@ -54,7 +54,7 @@ nothing-left n room b p used h =
     ap (λ (l : List ℕ). length (takes n room b l .answers)) (drop-of-length-le p h) ∙ ap (λ (g : Given). length (g .answers)) (takes-none n room b)
 
 -- takes from a book that holds no byte, and from any book
-takes-length : (n room : ℕ) (b : Book) (p : List ℕ) → b .held ≡ [] → let g = takes n room b p in length (g .answers) ≤ 2 * g .used
+takes-length : (n room : ℕ) (b : Book) (p : List ℕ) → b .held ≡ [] → let g = takes n room b p in length (g .answers) ≤ 7 * g .used
 takes-length zero room b p h = omega arith
 takes-length (suc n) room b [] h = omega arith
 takes-length (suc n) room b (x ∷ p) h =
@@ -64,8 +64,8 @@ takes-length (suc n) room b (x ∷ p) h =
     next : Given
     next = takes n (room - length (bookTake b (x ∷ p) .answer)) (bookTake b (x ∷ p) .book) (drop (bookTake b (x ∷ p) .used) (x ∷ p))
 
-    go : (t : Bool) → ltb room answerRoom ≡ t → Took b (x ∷ p) (bookTake b (x ∷ p)) → (bookTake b (x ∷ p) .book .held ≡ [] → length (next .answers) ≤ 2 * next .used)
-        → let g = takes (suc n) room b (x ∷ p) in length (g .answers) ≤ 2 * g .used
+    go : (t : Bool) → ltb room answerRoom ≡ t → Took b (x ∷ p) (bookTake b (x ∷ p)) → (bookTake b (x ∷ p) .book .held ≡ [] → length (next .answers) ≤ 7 * next .used)
+        → let g = takes (suc n) room b (x ∷ p) in length (g .answers) ≤ 7 * g .used
     go true e k i = rw e (omega arith)
     go false e (Took.frame z l) i =
         let m = i z in
@@ -73,7 +73,7 @@ takes-length (suc n) room b (x ∷ p) h =
     go false e (Took.piece z l) i =
         rw e (omega (arith, ap length z, nothing-left n (room - length (bookTake b (x ∷ p) .answer)) (bookTake b (x ∷ p) .book) (x ∷ p) (bookTake b (x ∷ p) .used) l, length-append (bookTake b (x ∷ p) .answer) (next .answers)))
 
-pub takes-most : (n room : ℕ) (b : Book) (p : List ℕ) → let g = takes n room b p in length (g .answers) ≤ answerRoom + 2 * g .used
+pub takes-most : (n room : ℕ) (b : Book) (p : List ℕ) → let g = takes n room b p in length (g .answers) ≤ answerRoom + 7 * g .used
 takes-most zero room b p = omega arith
 takes-most (suc n) room b [] = omega arith
 takes-most (suc n) room b (x ∷ p) = go (ltb room answerRoom) refl (took b (x ∷ p))
@@ -81,7 +81,7 @@ takes-most (suc n) room b (x ∷ p) = go (ltb room answerRoom) refl (took b (x �
     next : Given
     next = takes n (room - length (bookTake b (x ∷ p) .answer)) (bookTake b (x ∷ p) .book) (drop (bookTake b (x ∷ p) .used) (x ∷ p))
 
-    go : (t : Bool) → ltb room answerRoom ≡ t → Took b (x ∷ p) (bookTake b (x ∷ p)) → let g = takes (suc n) room b (x ∷ p) in length (g .answers) ≤ answerRoom + 2 * g .used
+    go : (t : Bool) → ltb room answerRoom ≡ t → Took b (x ∷ p) (bookTake b (x ∷ p)) → let g = takes (suc n) room b (x ∷ p) in length (g .answers) ≤ answerRoom + 7 * g .used
     go true e k = rw e (omega arith)
     go false e (Took.frame z l) =
         let m = takes-length n (room - length (bookTake b (x ∷ p) .answer)) (bookTake b (x ∷ p) .book) (drop (bookTake b (x ∷ p) .used) (x ∷ p)) z in

@@ -14,7 +14,7 @@ use Rattle.demands.specs.Stream.{Item, byte, closing, joined, joinedFrom, parte
 use Rattle.demands.specs.Demands.{bookAfter, handedOn}
 use Rattle.service.specs.declared.State.{State}
 use Rattle.service.proofs.Simulation.{fresh-whole, whole-none}
-use Rattle.demands.proofs.Simulation.{close-book, after-unfinished, after-fresh}
+use Rattle.demands.proofs.Simulation.{close-book, after-append, after-unfinished, after-fresh}
 use Rattle.demands.proofs.Streams.{written-points}
 use Rattle.demands.proofs.Demands.{demand-3, map-append, joined-append}
 use Rattle.delivery.specs.Delivery.{Given, deliveryOf, given, handOn}
@@ -23,7 +23,7 @@ use Rattle.streams.specs.Streams.{outputOf, ByTakes, Streams}
 use Rattle.delivery.proofs.Promises.{Reached, takes-reached, delivery-uses}
 use Rattle.streams.proofs.Room.{takes-most}
 use Rattle.streams.proofs.Alike.{front-answer, hand-on-book}
-use Rattle.streams.proofs.Calls.{after-append, answersTo, answers-append, answers-cons, Calls, no-calls, more-calls, takes-calls, takes-stop}
+use Rattle.streams.proofs.Calls.{answersTo, answers-append, answers-cons, Calls, no-calls, more-calls, takes-calls, takes-stop}
 
 -- ---- hand_on, once and repeated, from the state of a book
 
@@ -49,7 +49,7 @@ module _ (b : Book) (p buffer : List ℕ) (l : isSmall buffer ≡ false) (w : wh
   unfolding deliveryOf
   hand-on-stops = takes-stop (length p) (length buffer) b p (omega arith)
 
-  hand-on-once : 2 * length p + 2 * answerRoom ≤ length buffer → g .used ≡ length p
+  hand-on-once : 7 * length p + 2 * answerRoom ≤ length buffer → g .used ≡ length p
   unfolding deliveryOf
   hand-on-once h = go (ltb (g .used) (length p)) refl
     where

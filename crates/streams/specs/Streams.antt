@@ -43,8 +43,8 @@ pub record Streams : Type 0 where
   -- one call stops before the piece's end only where it leaves no room for an answer
   pub stops : (cs : List Call) (piece buffer : List ℕ) → isSmall buffer ≡ false
       → let r = handOn (stateAfter freshState cs) piece buffer in r .used < length piece → length buffer < r .len + answerRoom
-  -- so one call hands on the whole piece where the buffer has twice its length and room for two answers
-  pub once : (cs : List Call) (piece buffer : List ℕ) → 2 * length piece + 2 * answerRoom ≤ length buffer → handOn (stateAfter freshState cs) piece buffer .used ≡ length piece
+  -- so one call hands on the whole piece where the buffer has seven times its length, as a report has of its frame, and room for two answers
+  pub once : (cs : List Call) (piece buffer : List ℕ) → 7 * length piece + 2 * answerRoom ≤ length buffer → handOn (stateAfter freshState cs) piece buffer .used ≡ length piece
   -- repeated, it hands on the whole piece
   pub whole : (cs : List Call) (piece buffer : List ℕ) → isSmall buffer ≡ false
       → let h = handedToEnd (stateAfter freshState cs) piece buffer in (h .left ≡ []) × ByTakes cs piece (length piece) (h .answers) (h .state)

@@ -12,12 +12,12 @@ ghost use Rattle.frames.specs.Frame.{answerRoom};
 ghost use Rattle.service.specs.Service.{isGood};
 ghost use Rattle.weigher.specs.Serve.{Serves};
 
-// Room for the answers to one read of 65,536 bytes, so that one write follows it: twice its bytes and two answers (`once` of
-// crates/streams/specs/Streams.antt). A frame of two bytes has four of answer, and the first frame may have come in part before.
-const ANSWERS: usize = 2 * 65536 + 2 * ANSWER_ROOM;
+// Room for the answers to one read of 65,536 bytes, so that one write follows it: seven times its bytes and two answers (`once` of
+// crates/streams/specs/Streams.antt). A report has four bytes and 28 of answer, and the first frame may have come in part before.
+const ANSWERS: usize = 7 * 65536 + 2 * ANSWER_ROOM;
 
 fn answer_space() -> [u8; ANSWERS]
-    ensures { λ r. ⌜ 132104 ≡ length r ⌝ }
+    ensures { λ r. ⌜ 459784 ≡ length r ⌝ }
 {
     [0; ANSWERS]
 }
