@@ -1,9 +1,11 @@
-// Cuts the stream of standard input in two at every place, and then at random, and hands the pieces to take one after another, with
-// refused calls in between. A run fails where its answers are not those of the whole stream, handed on at once, where the state after a
-// piece is not document 01's for the bytes of the present frame, and where a refused call gives another number or changes anything. The
-// stream has to end inside a frame. Prints a line for each run that fails, and the counts.
+// Cuts the stream of standard input in two at every place, from a fresh service, and then at random, from one whose counts are near their
+// end, and hands the pieces to take one after another, with refused calls in between; then it closes, and asks for a report. A run fails
+// where its answers are not those of the whole stream, handed on at once, where the state after a piece is not document 01's for the bytes
+// of the present frame, where its counts or those of the report are not the counts over the answers that came, and where a refused call
+// gives another number or changes anything. The stream has to end inside a frame. Prints a line for each run that fails, and the counts.
 use delivery::HandedOn;
 use libc::STDOUT_FILENO;
+use memory::View;
 use service::Closed;
 use service::State;
 use service::Taken;
@@ -28,13 +30,69 @@ const RANDOM_RUNS: usize = 300;
 
 const LONGEST_PIECE: usize = 64;
 
-// The service's state, how many bytes of the wanted answers have come, or FAILED, how many bytes the last take used, and where in the
-// stream the present frame starts.
+// The bytes of a report's answer.
+const REPORT_BYTES: usize = 28;
+
+// The counts over the answers that came, each stopped at its end.
+struct Tally {
+    accepted: u64,
+    refused: u64,
+    total: u64,
+}
+
+// The service's state, the counts that it has to show, how many bytes of the wanted answers have come, or FAILED, how many bytes the last
+// take used, and where in the stream the present frame starts.
 struct Run {
     state: State,
+    tally: Tally,
     matched: usize,
     used: usize,
     start: usize,
+}
+
+// ---- the counts
+
+fn next(n: u64) -> u64 {
+    if n == u64::MAX {
+        return n;
+    }
+    n + 1
+}
+
+// With an answer of this code: 0 is accepted, and 1 to 5 and 11 are refused.
+fn tallied(tally: Tally, code: u8) -> Tally {
+    let mut tally = tally;
+    if code == 0 {
+        tally.accepted = next(tally.accepted);
+        tally.total = next(tally.total);
+    }
+    if 1 <= code && code <= 5 || code == 11 {
+        tally.refused = next(tally.refused);
+        tally.total = next(tally.total);
+    }
+    tally
+}
+
+fn shows(state: State, tally: Tally) -> bool {
+    let view = state.view;
+    let counts = view.counts;
+    counts.accepted == tally.accepted
+        && counts.refused == tally.refused
+        && counts.total == tally.total
+}
+
+// Whether a report is answered with these counts.
+fn reports(state: State, tally: Tally) -> bool {
+    let mut buffer = [FILL; BUFFER];
+    let taken = service::take(state, &[0, 2, 1, 4], &mut buffer);
+    taken.used == 4
+        && taken.len == REPORT_BYTES
+        && taken.refusal == 0
+        && words::read_u32(&buffer, 0) == 0x001a0100
+        && words::read_u64(&buffer, 4) == tally.accepted
+        && words::read_u64(&buffer, 12) == tally.refused
+        && words::read_u64(&buffer, 20) == tally.total
+        && is_filled(&buffer[REPORT_BYTES..])
 }
 
 // ---- what is compared
@@ -88,12 +146,26 @@ fn matched_after(
     FAILED
 }
 
+fn counts_in(state: State) -> Tally {
+    let view = state.view;
+    let counts = view.counts;
+    Tally {
+        accepted: counts.accepted,
+        refused: counts.refused,
+        total: counts.total,
+    }
+}
+
 fn is_same(a: State, b: State) -> bool {
     let x = a.frame;
     let y = b.frame;
     let x_body = x.body;
     let y_body = y.body;
-    x.count == y.count && x.hi == y.hi && x.lo == y.lo && check::same(&x_body, &y_body)
+    x.count == y.count
+        && x.hi == y.hi
+        && x.lo == y.lo
+        && check::same(&x_body, &y_body)
+        && shows(a, counts_in(b))
 }
 
 // ---- the state's bytes
@@ -134,10 +206,10 @@ fn is_state_of(state: State, bytes: &[u8]) -> bool {
         && is_body_of(&body, bytes, is_kept(hi, lo))
 }
 
-// Whether the state is the one for the bytes that have come, of which the present frame has the last.
+// Whether the state is the one for the bytes that have come, of which the present frame has the last, and for the answers.
 fn is_held(run: Run, come: &[u8]) -> bool {
     let start = run.start;
-    start <= come.len() && is_state_of(run.state, &come[start..])
+    start <= come.len() && is_state_of(run.state, &come[start..]) && shows(run.state, run.tally)
 }
 
 // ---- calls that change nothing
@@ -166,6 +238,20 @@ fn change_nothing(state: State, piece: &[u8], size: usize, number: u8) -> bool
     are_idle(taken, handed, closed, number) && is_same(closed.state, state) && is_filled(buffer)
 }
 
+// A state with another total: one less, and where that would be the least, one more.
+fn miscounted(state: State) -> State {
+    let view = state.view;
+    let mut counts = view.counts;
+    if counts.total == 0 {
+        counts.total = 1;
+    } else {
+        counts.total -= 1;
+    }
+    let frame = state.frame;
+    let view = View { counts };
+    State { frame, view }
+}
+
 // A state that no bytes short of a whole frame leave, made from one that some do: with as many bytes as the longest frame, with a byte at
 // the last place of a body, or with a length byte that has not come.
 fn broken(state: State, way: usize) -> State {
@@ -186,13 +272,14 @@ fn broken(state: State, way: usize) -> State {
     state
 }
 
-// Whether calls with a small buffer or a broken state are refused. The word picks a small buffer and the broken state.
+// Whether calls with a small buffer, a broken state or another total are refused. The word picks a small buffer and the broken state.
 fn refuses(state: State, piece: &[u8], word: usize) -> bool {
     let bad = broken(state, word % 4);
     change_nothing(state, piece, SMALL_BUFFER, 6)
         && change_nothing(state, piece, word % BUFFER, 6)
         && change_nothing(bad, piece, SMALL_BUFFER, 6)
         && change_nothing(bad, piece, BUFFER, 7)
+        && change_nothing(miscounted(state), piece, BUFFER, 7)
 }
 
 // ---- runs
@@ -206,12 +293,17 @@ fn take_next(run: Run, piece: &[u8], wanted: &[u8]) -> Run
     let taken = service::take(run.state, piece, &mut buffer);
     let matched = matched_after(run.matched, &buffer, taken.len, taken.refusal, wanted);
     let state = taken.state;
+    let mut tally = run.tally;
+    if 0 < taken.len {
+        tally = tallied(tally, buffer[3]);
+    }
     let used = taken.used;
     let start = run.start;
     let rest = piece.len();
     if used == 0 || rest < used {
         return Run {
             state,
+            tally,
             matched: FAILED,
             used: rest,
             start,
@@ -219,6 +311,7 @@ fn take_next(run: Run, piece: &[u8], wanted: &[u8]) -> Run
     }
     Run {
         state,
+        tally,
         matched,
         used,
         start,
@@ -249,13 +342,14 @@ fn hand_over(run: Run, come: &[u8], from: usize, wanted: &[u8], word: usize) -> 
 }
 
 // Whether all the wanted answers came, and the end is answered by refusal 8 and leaves a service that an empty piece and another end do not
-// change.
+// change, and that reports the counts over the answers to the frames.
 fn finish(run: Run, wanted: &[u8]) -> bool {
     let mut buffer = [FILL; BUFFER];
     let closed = service::close(run.state, &mut buffer);
     run.matched == wanted.len()
         && matched_after(0, &buffer, closed.len, closed.refusal, &[0, 2, 1, 8]) == 4
         && change_nothing(closed.state, &wanted[0..0], BUFFER, 0)
+        && reports(closed.state, run.tally)
 }
 
 // The generator of Lehmer with the numbers of Park and Miller.
@@ -281,11 +375,13 @@ fn piece_end(number: usize, word: usize, at: usize, len: usize) -> usize
 }
 
 // Whether the run of this number, which is its seed too, does not fail.
-fn passes(stream: &[u8], wanted: &[u8], number: usize) -> bool
+fn passes(state: State, stream: &[u8], wanted: &[u8], number: usize) -> bool
     requires { ⌜ number < 2147483647 ⌝ }
 {
+    let tally = counts_in(state);
     let mut run = Run {
-        state: service::fresh(),
+        state,
+        tally,
         matched: 0,
         used: 0,
         start: 0,
@@ -301,6 +397,19 @@ fn passes(stream: &[u8], wanted: &[u8], number: usize) -> bool
     finish(run, wanted)
 }
 
+// A service whose counts are near their end: the stream brings the total to it, and then the frames accepted.
+fn near_the_end() -> State {
+    let fresh = service::fresh();
+    let counts = counts::Counts {
+        accepted: u64::MAX - 9,
+        refused: 4,
+        total: u64::MAX - 5,
+    };
+    let frame = fresh.frame;
+    let view = View { counts };
+    State { frame, view }
+}
+
 fn print_number(before: &[u8], number: usize, after: &[u8]) {
     io::write_all(STDOUT_FILENO, before);
     io::print_decimal(STDOUT_FILENO, number as u64);
@@ -308,22 +417,22 @@ fn print_number(before: &[u8], number: usize, after: &[u8]) {
 }
 
 // Hands the whole stream on at once, and returns how long the answers are.
-fn answer_whole(stream: &[u8], answers: &mut [u8]) -> usize
+fn answer_whole(state: State, stream: &[u8], answers: &mut [u8]) -> usize
     ensures { λ r. ⌜ Counts r (now (answers .exit)) ⌝ }
 {
-    let handed = delivery::hand_on(service::fresh(), stream, answers);
+    let handed = delivery::hand_on(state, stream, answers);
     handed.len
 }
 
-// How many of the runs fail.
-fn count_failures(stream: &[u8], wanted: &[u8], runs: usize) -> usize
-    requires { ⌜ runs < 2147483647 ⌝ }
+// How many of the runs from one number up to another fail that start from this state.
+fn count_failures(state: State, stream: &[u8], wanted: &[u8], first: usize, runs: usize) -> usize
+    requires { ⌜ (first ≤ runs) × (runs < 2147483647) ⌝ }
     ensures { λ r. ⌜ r ≤ runs ⌝ }
 {
     let mut failures = 0;
-    let mut number = 0;
+    let mut number = first;
     while number < runs {
-        if !passes(stream, wanted, number) {
+        if !passes(state, stream, wanted, number) {
             print_number(b"run ", number, b" fails\n");
             failures += 1;
         }
@@ -332,15 +441,25 @@ fn count_failures(stream: &[u8], wanted: &[u8], runs: usize) -> usize
     failures
 }
 
+// The same, where the wanted answers are those of the whole stream.
+fn count_from(state: State, stream: &[u8], first: usize, runs: usize) -> usize
+    requires { ⌜ (first ≤ runs) × (runs < 2147483647) ⌝ }
+    ensures { λ r. ⌜ r ≤ runs ⌝ }
+{
+    let mut space = vectors::space();
+    let len = answer_whole(state, stream, &mut space);
+    count_failures(state, stream, &space[..len], first, runs)
+}
+
 fn run_all(stream: &[u8])
     requires { ⌜ length (now stream) ≤ 1048576 ⌝ }
 {
-    let mut space = vectors::space();
-    let len = answer_whole(stream, &mut space);
-    let runs = stream.len() + 1 + RANDOM_RUNS;
-    let failures = count_failures(stream, &space[..len], runs);
+    let cuts = stream.len() + 1;
+    let runs = cuts + RANDOM_RUNS;
+    let failures = count_from(service::fresh(), stream, 0, cuts);
+    let near = count_from(near_the_end(), stream, cuts, runs);
     print_number(b"", runs, b" runs, ");
-    print_number(b"", failures, b" failures\n");
+    print_number(b"", failures + near, b" failures\n");
 }
 
 fn main() {

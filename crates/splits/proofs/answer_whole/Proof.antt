@@ -5,9 +5,6 @@ use borrow.Author.Needs.{needs}
 use Rattle.splits.proofs.answer_whole.Statement.{statement}
 use Rattle.splits.proofs.answer_whole.Tie as tie
 
-fresh-requires : tie.Need-fresh-requires
-fresh-requires c κs = search needs
-
 hand-on-requires : tie.Need-hand-on-requires
 hand-on-requires c κs = search needs
 
@@ -20,4 +17,4 @@ returns c =
     simp length-take (omega (arith, h .ensures .len, h .kept .1 .1 .0))
 
 pub answer-whole-spec : {M : Type 1} → statement M
-answer-whole-spec = tie.close (tie.spec fresh-requires hand-on-requires same-length returns)
+answer-whole-spec = tie.close (tie.spec hand-on-requires same-length returns)

@@ -7,10 +7,10 @@ use Rattle.splits.proofs.count_failures.Statement.{statement}
 use Rattle.splits.proofs.count_failures.Tie as tie
 
 abbrev Inv-loop : tie.InvT-loop
-Inv-loop stream wanted runs failures₀ number₀ t6 t7 failures number = (failures ≤ number) × (number ≤ runs)
+Inv-loop state stream wanted first runs failures₀ number₀ t8 t9 failures number = (failures ≤ number) × (number ≤ runs)
 
 abbrev μ-loop : tie.MeasureT-loop
-μ-loop stream wanted runs failures₀ number₀ t6 t7 failures number = runs - number
+μ-loop state stream wanted first runs failures₀ number₀ t8 t9 failures number = runs - number
 
 loop-holds : tie.Need-loop-holds Inv-loop μ-loop
 loop-holds c = search needs

@@ -1,5 +1,6 @@
 -- `splits::hand_over` is safe and ends: each take uses some bytes of the piece. Assumes nothing.
 use Prim.Native.Nat.{_≤_, _-_}
+use native.Mathlib.Omega.{arith}
 use lib.ListN.{length}
 use borrow.Author.Needs.{needs}
 use Rattle.splits.proofs.hand_over.Statement.{statement}
@@ -39,7 +40,9 @@ take-next-requires : tie.Need-take-next-requires Inv-loop μ-loop
 take-next-requires c κs = search needs
 
 add-at : tie.Need-add-at Inv-loop μ-loop
-add-at c = search needs
+add-at c =
+    let t = c .before in
+    omega (arith, t .take-next .ensures .1, t .before .before .before .before .before .before .before .before .before .good)
 
 loop-less : tie.Need-loop-less Inv-loop μ-loop
 loop-less c = search needs

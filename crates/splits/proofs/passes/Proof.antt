@@ -12,8 +12,8 @@ Inv-loop stream wanted number run₀ word₀ at₀ run word at = (at ≤ length 
 abbrev μ-loop : tie.MeasureT-loop
 μ-loop stream wanted number run₀ word₀ at₀ run word at = length stream - at
 
-fresh-requires : tie.Need-fresh-requires Inv-loop μ-loop
-fresh-requires c κs = search needs
+counts-in-requires : tie.Need-counts-in-requires Inv-loop μ-loop
+counts-in-requires c κs = search needs
 
 loop-holds : tie.Need-loop-holds Inv-loop μ-loop
 loop-holds c = search needs
@@ -48,7 +48,7 @@ passes-spec =
     (tie.spec
     Inv-loop
     μ-loop
-    fresh-requires
+    counts-in-requires
     loop-holds
     next-random-requires
     piece-end-requires
