@@ -5,7 +5,10 @@ set -eu
 stream=crates/replay/stdin
 answers=crates/replay/stdout
 
-# The recorded stream ends with 515 bytes of an unfinished frame, which refusal 8, of 4 bytes, answers.
+# The recorded stream ends with 68 bytes of reports and of frames between them, which have 284 bytes of answers, and then with 515 bytes
+# of an unfinished frame, which refusal 8, of 4 bytes, answers.
+reports=68
+reported=284
 unfinished=515
 refusal=4
 
@@ -14,10 +17,14 @@ fail() {
     exit 1
 }
 
-# The recorded stream up to its last whole frame, so that it can be repeated, and the answers to it.
+# The recorded stream up to its reports, so that it can be repeated, and the answers to it: the numbers of a report grow with every frame
+# before it, so that it would be answered otherwise each time. And the stream's unfinished end, which can follow any number of repetitions,
+# and the refusal of it.
 make_whole() {
-    head -c "-$unfinished" "$stream" > "$WORK/frames"
-    head -c "-$refusal" "$answers" > "$WORK/replies"
+    head -c "-$((reports + unfinished))" "$stream" > "$WORK/frames"
+    head -c "-$((reported + refusal))" "$answers" > "$WORK/replies"
+    tail -c "$unfinished" "$stream" > "$WORK/end"
+    tail -c "$refusal" "$answers" > "$WORK/end-reply"
 }
 
 repeat() {
@@ -25,6 +32,30 @@ repeat() {
     while [ "$left" -gt 0 ]; do
         cat "$2"
         left=$((left - 1))
+    done
+}
+
+# How many of the answers in a file have code 0, and how many are refusals.
+count_answers() {
+    od -An -v -tu1 -w1 "$1" | awk '
+        ++at == 1 { size = 256 * $1 }
+        at == 2 { size += 2 + $1 }
+        at == 4 { if ($1 == 0) accepted++; else refused++ }
+        at > 2 && at == size { at = 0 }
+        END { print accepted + 0, refused + 0 }'
+}
+
+report() {
+    printf '\000\002\001\004'
+}
+
+# The answer to a report behind so many frames that were accepted, and so many that were refused.
+report_reply() {
+    printf '\000\032\001\000'
+    for value in "$1" "$2" $(($1 + $2)); do
+        for place in 56 48 40 32 24 16 8 0; do
+            printf "\\$(printf %03o $((value >> place & 255)))"
+        done
     done
 }
 

@@ -1,6 +1,6 @@
 #!/bin/sh
 # Connections to the program under socat on loopback, a process for each. Every answer is compared byte for byte with what the service in
-# compare/ answers.
+# compare/ answers. There are reports in each stream, whose numbers have to be the counts of its own connection alone.
 #     tests/connections.sh [COUNT]
 # COUNT connections, 400 where none is given: the first quarter one after another, the others in groups of 50, all of a group open at once
 # and inside their streams. Each sends random frames of its own where target/compare/compare was built over the Rust source, and else one
@@ -48,7 +48,7 @@ if [ -x "$compare" ] && "$compare" answers < /dev/null 2> /dev/null; then
     random=yes
 fi
 
-# The stream of a connection and the answers to it.
+# The stream of a connection and the answers to it. Document 01's case has no report, and gets one as its first frame.
 prepare() {
     if [ "$random" = yes ]; then
         "$compare" random-stream "$1" > "$WORK/$1.stream"
@@ -57,8 +57,8 @@ prepare() {
         cp "$stream" "$WORK/$1.stream"
         cp "$answers" "$WORK/$1.expected"
     else
-        cp crates/weigher/stdin "$WORK/$1.stream"
-        cp crates/weigher/stdout "$WORK/$1.expected"
+        { report && cat crates/weigher/stdin; } > "$WORK/$1.stream"
+        { report_reply 0 0 && cat crates/weigher/stdout; } > "$WORK/$1.expected"
     fi
 }
 

@@ -1,5 +1,5 @@
 # Many instances at once, two hundred in the full form, each inside its stream until all have answered; then all go on, and every answer
-# is right.
+# is right, those to the reports at the stream's end too: they count the frames of their own instance alone.
 . tests/common.sh
 
 count=50

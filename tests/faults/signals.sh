@@ -31,12 +31,12 @@ disturb "$rounds"
 wait "$feeder"
 within 5 rests "$pid" || fail "it does not come to rest at the end of its input"
 disturb "$rounds"
-cat "$stream" >&3
+cat "$WORK/frames" "$WORK/end" >&3
 exec 3>&-
 wait "$reader"
 {
-    repeat 8 "$WORK/replies"
-    cat "$answers"
+    repeat 9 "$WORK/replies"
+    cat "$WORK/end-reply"
 } | cmp -s - "$WORK/got" || fail "the answers are lost or changed"
 within 5 has_ended "$pid" || fail "it goes on after the end of its input"
 wait "$pid" || fail "status $?"
