@@ -15,39 +15,40 @@ use Rattle.frames.proofs.Refusals.{bounds-kept, too-short, too-long, good-lengt
 use Rattle.counts.specs.Counts.{reportOf}
 use Rattle.counts.specs.declared.Counts.{Counts}
 use Rattle.counts.proofs.Written.{length-report}
-use Rattle.answers.specs.Answers.{Answer, resultsOf, answerFrame, accepted, answerTo, answerOf, isReport}
+use Rattle.answers.specs.Answers.{Answer, answerFrame, accepting, refusing, itemsIn, accepted, answerTo, answerOf, isReport}
 use Rattle.answers.specs.Written.{Written}
 use Rattle.answers.proofs.Results.{length-results}
 
-pub answer-good : (c : Counts) (n : ℕ) (b : List ℕ) → refusalTo n b ≡ 0 → answerTo c n b ≡ record { bytes = accepted c n b; number = 0 }
+pub answer-good : (c : Counts) (n : ℕ) (b : List ℕ) → refusalTo n b ≡ 0 → answerTo c n b ≡ accepting (accepted c n b)
 unfolding answerTo
 answer-good c n b e = rw (eq-eqb (refusalTo n b) 0 e) refl
 
-pub answer-bad : (c : Counts) (n : ℕ) (b : List ℕ) {k : ℕ} → k ≡ refusalTo n b → (k ≡ 0 → ⊥) → answerTo c n b ≡ record { bytes = refusalFrame k; number = k }
+pub answer-bad : (c : Counts) (n : ℕ) (b : List ℕ) {k : ℕ} → k ≡ refusalTo n b → (k ≡ 0 → ⊥) → answerTo c n b ≡ refusing k
 unfolding answerTo
 answer-bad c n b {k} e z = rw (← e, ne-eqb k 0 z) refl
 
-pub accepted-report : (c : Counts) (n : ℕ) (b : List ℕ) → getD b 1 0 ≡ 4 → accepted c n b ≡ answerFrame (reportOf c)
-unfolding accepted
-accepted-report c n b e = rw (eq-eqb (getD b 1 0) 4 e) refl
+pub answer-report : (c : Counts) (n : ℕ) (b : List ℕ) → refusalTo n b ≡ 0 → getD b 1 0 ≡ 4 → answerTo c n b ≡ accepting (reportOf c)
+unfolding answerTo accepted
+answer-report c n b r e = rw (eq-eqb (refusalTo n b) 0 r, eq-eqb (getD b 1 0) 4 e) refl
 
-pub accepted-items : (c : Counts) (n : ℕ) (b : List ℕ) → (getD b 1 0 ≡ 4 → ⊥) → accepted c n b ≡ answerFrame (resultsOf (getD b 1 0) (itemCount (getD b 1 0) (n - 2)) (drop 2 b))
-unfolding accepted
-accepted-items c n b e = rw (ne-eqb (getD b 1 0) 4 e) refl
+pub answer-items : (c : Counts) (n : ℕ) (b : List ℕ) → refusalTo n b ≡ 0 → (getD b 1 0 ≡ 4 → ⊥) → answerTo c n b ≡ accepting (itemsIn n b)
+unfolding answerTo accepted
+answer-items c n b r e = rw (eq-eqb (refusalTo n b) 0 r, ne-eqb (getD b 1 0) 4 e) refl
 
 -- an answer has at least four bytes, no more than there is room for, and no more than seven times its frame, which a report has
 pub answer-length : (c : Counts) (n : ℕ) (b : List ℕ) → (4 ≤ length (answerTo c n b .bytes)) × (length (answerTo c n b .bytes) ≤ answerRoom) × (length (answerTo c n b .bytes) ≤ 7 * (2 + n))
+unfolding itemsIn
 answer-length c n b = go (eqb (refusalTo n b) 0) (eqb (getD b 1 0) 4) refl refl
   where
     go : (t r : Bool) → eqb (refusalTo n b) 0 ≡ t → eqb (getD b 1 0) 4 ≡ r → (4 ≤ length (answerTo c n b .bytes)) × (length (answerTo c n b .bytes) ≤ answerRoom) × (length (answerTo c n b .bytes) ≤ 7 * (2 + n))
     go true true e k =
         let g = good-length n b (eqb-true _ _ e) in
-        let l = ap (λ (a : Answer). length (a .bytes)) (answer-good c n b (eqb-true _ _ e)) ∙ ap length (accepted-report c n b (eqb-true _ _ k)) in
+        let l = ap (λ (a : Answer). length (a .bytes)) (answer-report c n b (eqb-true _ _ e) (eqb-true _ _ k)) in
         let m = length-report c in
         (omega arith, omega arith, omega arith)
     go true false e k =
         let g = good-length n b (eqb-true _ _ e) in
-        let l = ap (λ (a : Answer). length (a .bytes)) (answer-good c n b (eqb-true _ _ e)) ∙ ap length (accepted-items c n b (eqb-false _ _ k)) in
+        let l = ap (λ (a : Answer). length (a .bytes)) (answer-items c n b (eqb-true _ _ e) (eqb-false _ _ k)) in
         let r = length-results (getD b 1 0) (itemCount (getD b 1 0) (n - 2)) (drop 2 b) in
         let m = items-fit (getD b 1 0) (n - 2) in
         (omega arith, omega arith, omega arith)
@@ -97,18 +98,17 @@ answer-by-length c n b d e = low (ltb n 2) refl
     low true i = same 0 (too-short n b (ltb-true _ _ i)) (too-short n d (ltb-true _ _ i))
     low false i = high (ltb longestBody n) refl (ltb-false _ _ i)
 
-module _ (c : Counts) (n : ℕ) (b before : List ℕ) where
-  pub refusal-written : (after : List ℕ) {k len : ℕ} → k ≡ refusalTo n b → (k ≡ 0 → ⊥) → len ≡ 4 → after ≡ refusalFrame k ++ drop 4 before → Written (answerTo c n b) len before after
-  refusal-written after {k} {len} e z l w = subst (λ (a : Answer). Written a len before after) (sym (answer-bad c n b e z)) (record { len = l; buffer = w })
+pub refusal-written : (c : Counts) (n : ℕ) (b before after : List ℕ) {k len : ℕ} → k ≡ refusalTo n b → (k ≡ 0 → ⊥) → len ≡ 4 → after ≡ refusalFrame k ++ drop 4 before
+    → Written (answerTo c n b) len before after
+refusal-written c n b before after {k} {len} e z l w = subst (λ (a : Answer). Written a len before after) (sym (answer-bad c n b e z)) (record { len = l; buffer = w })
 
-  -- a head for so many bytes, and what is written behind it
-  pub results-written : (results a₁ w : List ℕ) (size : ℕ) → refusalTo n b ≡ 0 → accepted c n b ≡ answerFrame results → size ≡ 2 + length results
-      → a₁ ≡ size / 256 ∷ size % 256 ∷ 1 ∷ 0 ∷ drop 4 before
-      → w ≡ results ++ drop (length results) (take (length a₁ - 4) (drop 4 a₁))
-      → Written (answerTo c n b) (size + 2) before (putMid 4 (length a₁ - 4) a₁ w)
-  results-written results a₁ w size e a l ea ew =
-      let front = size / 256 ∷ size % 256 ∷ 1 ∷ 0 ∷ [] in
-      let put = put-behind 4 (length results) a₁ before front results w refl ea ew in
-      let size-of : 4 + length results ≡ length (answerFrame results) = omega arith in
-      subst (λ (x : Answer). Written x (size + 2) before (putMid 4 (length a₁ - 4) a₁ w)) (sym (answer-good c n b e ∙ ap (λ (x : List ℕ). record { bytes = x; number = 0 }) a))
-      (record { len = omega arith; buffer = put ∙ (λ j. l j / 256 ∷ l j % 256 ∷ 1 ∷ 0 ∷ (results ++ drop (size-of j) before)) })
+-- a head for so many bytes, and what is written behind it
+pub results-written : (results before a₁ w : List ℕ) (size : ℕ) → size ≡ 2 + length results
+    → a₁ ≡ size / 256 ∷ size % 256 ∷ 1 ∷ 0 ∷ drop 4 before
+    → w ≡ results ++ drop (length results) (take (length a₁ - 4) (drop 4 a₁))
+    → Written (accepting results) (size + 2) before (putMid 4 (length a₁ - 4) a₁ w)
+results-written results before a₁ w size l ea ew =
+    let front = size / 256 ∷ size % 256 ∷ 1 ∷ 0 ∷ [] in
+    let put = put-behind 4 (length results) a₁ before front results w refl ea ew in
+    let long : 4 + length results ≡ length (answerFrame results) = omega arith in
+    record { len = omega arith; buffer = put ∙ (λ j. l j / 256 ∷ l j % 256 ∷ 1 ∷ 0 ∷ (results ++ drop (long j) before)) }

@@ -9,7 +9,7 @@ use Rattle.ieee754.specs.Operations.{fusedBits}
 use Rattle.frames.specs.Frame.{isKind, kindOf, badPayload, refusalTo, refusalFrame}
 use Rattle.counts.specs.Counts.{reportOf}
 use Rattle.counts.specs.declared.Counts.{Counts}
-use Rattle.answers.specs.Answers.{Answer, directionIn, resultAt, resultsOf, accepted, answerTo}
+use Rattle.answers.specs.Answers.{Answer, directionIn, resultAt, resultsOf, itemsIn, accepted, answerTo}
 
 -- where 258 frames were accepted and 3 refused
 abbrev counts : Counts
@@ -37,11 +37,11 @@ pub in-each :
     ∷ results 0x3ff0000000000000 0x8000000000000000
     ∷ record { bytes = refusalFrame 11; number = 11 }
     ∷ []
-unfolding answerTo accepted resultsOf resultAt directionIn refusalTo isKind kindOf badPayload numberAt wordBytes fusedBits
+unfolding answerTo accepted itemsIn resultsOf resultAt directionIn refusalTo isKind kindOf badPayload numberAt wordBytes fusedBits
 in-each = refl
 
 pub to-nearest : answer (1 ∷ 2 ∷ triples) ≡ results 0x3ff0000000000000 0
-unfolding answerTo accepted resultsOf resultAt directionIn refusalTo isKind kindOf badPayload numberAt wordBytes fusedBits
+unfolding answerTo accepted itemsIn resultsOf resultAt directionIn refusalTo isKind kindOf badPayload numberAt wordBytes fusedBits
 to-nearest = refl
 
 -- 28 bytes; with a byte or with 24 it is 5
@@ -54,5 +54,5 @@ pub reports :
     ∷ record { bytes = refusalFrame 5; number = 5 }
     ∷ record { bytes = refusalFrame 5; number = 5 }
     ∷ []
-unfolding answerTo accepted resultsOf resultAt directionIn refusalTo isKind kindOf badPayload reportOf numberAt wordBytes fusedBits
+unfolding answerTo accepted itemsIn resultsOf resultAt directionIn refusalTo isKind kindOf badPayload reportOf numberAt wordBytes fusedBits
 reports = refl

@@ -51,19 +51,24 @@ pub record Answer : Type 0 where
 abbrev pub answerFrame : List ℕ → List ℕ
 answerFrame results = (2 + length results) / 256 ∷ (2 + length results) % 256 ∷ 1 ∷ 0 ∷ results
 
--- the answer to a body of n bytes that is not refused: a report's three numbers, or the results of the items
+abbrev pub accepting : List ℕ → Answer
+accepting results = record { bytes = answerFrame results; number = 0 }
+
+abbrev pub refusing : ℕ → Answer
+refusing number = record { bytes = refusalFrame number; number = number }
+
+-- what a body of n bytes that is not refused is answered with: the results of its items, and for a report the three numbers
+unfoldable pub itemsIn : ℕ → List ℕ → List ℕ
+itemsIn n body = resultsOf (getD body 1 0) (itemCount (getD body 1 0) (n - 2)) (drop 2 body)
+
 unfoldable pub accepted : Counts → ℕ → List ℕ → List ℕ
-accepted c n body =
-    answerFrame
-    (cond (eqb (getD body 1 0) 4)
-    (reportOf c)
-    (resultsOf (getD body 1 0) (itemCount (getD body 1 0) (n - 2)) (drop 2 body)))
+accepted c n body = cond (eqb (getD body 1 0) 4) (reportOf c) (itemsIn n body)
 
 unfoldable pub answerTo : Counts → ℕ → List ℕ → Answer
 answerTo c n body =
     cond (eqb (refusalTo n body) 0)
-    (record { bytes = accepted c n body; number = 0 })
-    (record { bytes = refusalFrame (refusalTo n body); number = refusalTo n body })
+    (accepting (accepted c n body))
+    (refusing (refusalTo n body))
 
 -- the answer to a whole frame
 unfoldable pub answerOf : Counts → List ℕ → Answer

@@ -1,4 +1,4 @@
-// The answer to a frame that is not refused: the results of its payload, or a report's numbers, written into a buffer.
+// The answer to a frame that is not refused: the results of its items, or a report's numbers, written into a buffer.
 //
 // The contracts are equations with the documents' answers on lists of bytes, in specs/Answers.antt.
 ghost use mathlib.Core.Path.{_≡_};
@@ -7,12 +7,12 @@ ghost use Prim.Native.Nat.{_+_, _*_, _≤_};
 ghost use lib.ListN.{length, drop};
 ghost use Rattle.frames.specs.Frame.{answerRoom, itemsFrom, itemBytes, refusalTo};
 ghost use Rattle.frames.specs.Body.{Body};
-ghost use Rattle.answers.specs.Answers.{directionIn, resultAt, resultsOf, answerTo};
+ghost use Rattle.counts.specs.Counts.{reportOf};
+ghost use Rattle.answers.specs.Answers.{directionIn, resultAt, resultsOf, accepting, itemsIn};
 ghost use Rattle.answers.specs.Written.{Written};
 use counts::Counts;
 use counts::REPORT_BYTES;
 use frames::DIRECTED;
-use frames::REPORT;
 use frames::SCORES;
 use rounding::Direction;
 use rounding::Named;
@@ -65,17 +65,22 @@ fn write_results(kind: u8, payload: &[u8], n: usize, out: &mut [u8])
     }
 }
 
-// Writes the answer to a frame that is not refused, and returns its length. A report shows the counts.
-pub fn write_answer(counts: Counts, n: usize, body: &[u8], answer: &mut [u8]) -> usize
+// Writes the answer to a report, which shows the counts, and returns its length.
+pub fn write_report(counts: Counts, answer: &mut [u8]) -> usize
+    requires { ⌜ answerRoom ≤ length (now answer) ⌝ }
+    ensures { λ r. ⌜ Written (accepting (reportOf counts)) r (now (answer .entry)) (now (answer .exit)) ⌝ }
+{
+    frames::write_head(answer, REPORT_BYTES + 2, 0);
+    counts::write_report(counts, &mut answer[4..]);
+    REPORT_BYTES + 4
+}
+
+// Writes the answer to a frame with items that is not refused, and returns its length.
+pub fn write_answer(n: usize, body: &[u8], answer: &mut [u8]) -> usize
     requires { ⌜ Body n (now body) × (refusalTo n (now body) ≡ 0) × (answerRoom ≤ length (now answer)) ⌝ }
-    ensures { λ r. ⌜ Written (answerTo counts n (now (body .entry))) r (now (answer .entry)) (now (answer .exit)) ⌝ }
+    ensures { λ r. ⌜ Written (accepting (itemsIn n (now (body .entry)))) r (now (answer .entry)) (now (answer .exit)) ⌝ }
 {
     let kind = body[1];
-    if kind == REPORT {
-        frames::write_head(answer, REPORT_BYTES + 2, 0);
-        counts::write_report(counts, &mut answer[4..]);
-        return REPORT_BYTES + 4;
-    }
     let count = frames::item_count(kind, n - 2);
     let size = 8 * count + 2;
     frames::write_head(answer, size, 0);

@@ -1,10 +1,10 @@
 -- What is shown of the true counts is a sum, and goes on by what is shown alone. Assumes nothing.
 use Prim.Native.Nat.{ℕ, zero, suc, _+_, _≤_, min}
 use mathlib.Core.Path.{_≡_, refl, sym}
-use mathlib.Core.Bool.{Bool, true, false, _&&_, _||_, true≢false}
+use mathlib.Core.Bool.{Bool, true, false}
 use native.Mathlib.Omega.{arith}
 use borrow.Author.Tests.{eq-eqb, ne-eqb, eqb-true}
-use Rattle.counts.specs.Counts.{isAccepted, isRefused, Tally, oneIf, counted, most, stopped, shown, tallyIn, isSum, stoppedIf, shownNext}
+use Rattle.counts.specs.Counts.{isAccepted, isRefused, Tally, oneIf, counted, most, stopped, shown, tallyIn, isSum, added, shownNext}
 use Rattle.counts.specs.declared.Counts.{Counts}
 
 pub stopped-least : (n : ℕ) → n ≤ most → stopped n ≡ n
@@ -52,45 +52,48 @@ not-refused n h z =
     )
     refl
 
--- ---- one answer more
+-- ---- more answers
 
-stopped-next : (t : Bool) (n : ℕ) → stopped (oneIf t n) ≡ stoppedIf t (stopped n)
+one-more : (t : Bool) (n : ℕ) → stopped (oneIf t n) ≡ stopped (stopped n + oneIf t 0)
 unfolding stopped
-stopped-next true n = omega arith
-stopped-next false n = refl
+one-more true n = omega arith
+one-more false n = omega arith
 
-total-next : (s t : Bool) (m n : ℕ) → s && t ≡ false → stopped (oneIf s m + oneIf t n) ≡ stoppedIf (s || t) (stopped (m + n))
+total-more : (s t : Bool) (m n : ℕ) → stopped (oneIf s m + oneIf t n) ≡ stopped (stopped (m + n) + (oneIf s 0 + oneIf t 0))
 unfolding stopped
-total-next true true m n e = absurd (true≢false e)
-total-next true false m n e = omega arith
-total-next false true m n e = omega arith
-total-next false false m n e = refl
-
--- no answer counts twice
-counted-once : (number : ℕ) → isAccepted number && isRefused number ≡ false
-unfolding isRefused
-counted-once zero = refl
-counted-once (suc n) = rw (ne-eqb (suc n) 0 (λ z. let w : ⊥ = omega arith in w)) refl
+total-more true true m n = omega arith
+total-more true false m n = omega arith
+total-more false true m n = omega arith
+total-more false false m n = omega arith
 
 pub shown-next : (number : ℕ) (t : Tally) → shown (counted number t) ≡ shownNext number (shown t)
 shown-next number t =
     λ i. record {
-      accepted = stopped-next (isAccepted number) (t .accepted) i;
-      refused = stopped-next (isRefused number) (t .refused) i;
-      total = total-next (isAccepted number) (isRefused number) (t .accepted) (t .refused) (counted-once number) i;
+      accepted = one-more (isAccepted number) (t .accepted) i;
+      refused = one-more (isRefused number) (t .refused) i;
+      total = total-more (isAccepted number) (isRefused number) (t .accepted) (t .refused) i;
     }
 
--- as a function that tries the numbers comes to it
-module _ {number : ℕ} (c : Counts) where
-  pub next-accepted : number ≡ 0 → shownNext number c ≡ record { accepted = stopped (suc (c .accepted)); refused = c .refused; total = stopped (suc (c .total)) }
-  unfolding isRefused
-  next-accepted e = rw e refl
+pub sum-more : (c i j : ℕ) → stopped (stopped (c + i) + j) ≡ stopped (c + (i + j))
+unfolding stopped
+sum-more c i j = omega arith
 
-  pub next-refused : (number ≡ 0 → ⊥) → isRefused number ≡ true → shownNext number c ≡ record { accepted = c .accepted; refused = stopped (suc (c .refused)); total = stopped (suc (c .total)) }
-  next-refused z e = rw (ne-eqb number 0 z, e) refl
+-- some more, and then others
+pub added-more : (i j k l : ℕ) (c : Counts) → added k l (added i j c) ≡ added (i + k) (j + l) c
+unfolding stopped
+added-more i j k l c =
+    let total : stopped (stopped (c .total + (i + j)) + (k + l)) ≡ stopped (c .total + (i + k + (j + l))) = omega arith in
+    λ n. record { accepted = sum-more (c .accepted) i k n; refused = sum-more (c .refused) j l n; total = total n }
 
-  pub next-other : (number ≡ 0 → ⊥) → isRefused number ≡ false → shownNext number c ≡ c
-  next-other z e = rw (ne-eqb number 0 z, e) refl
+pub next-accepted : {number : ℕ} (c : Counts) → number ≡ 0 → shownNext number c ≡ added 1 0 c
+unfolding isRefused
+next-accepted c e = rw e refl
+
+pub next-refused : {number : ℕ} (c : Counts) → (number ≡ 0 → ⊥) → isRefused number ≡ true → shownNext number c ≡ added 0 1 c
+next-refused {number} c z e = rw (ne-eqb number 0 z, e) refl
+
+pub next-other : {number : ℕ} (c : Counts) → (number ≡ 0 → ⊥) → isRefused number ≡ false → shownNext number c ≡ added 0 0 c
+next-other {number} c z e = rw (ne-eqb number 0 z, e) refl
 
 -- ---- what is shown, and the counts that it stands for
 

@@ -64,16 +64,12 @@ isSum c = eqb (c .total) (stopped (c .accepted + c .refused))
 unfoldable pub reportOf : Counts → List ℕ
 reportOf c = (wordBytes (c .accepted) ++ wordBytes (c .refused)) ++ wordBytes (c .total)
 
--- ---- the same step by what is shown alone, which proofs/Shown.antt shows
+-- ---- the same by what is shown alone, which proofs/Shown.antt shows
 
-abbrev pub stoppedIf : Bool → ℕ → ℕ
-stoppedIf true n = stopped (suc n)
-stoppedIf false n = n
+-- with so many accepted and refused frames more
+abbrev pub added : ℕ → ℕ → Counts → Counts
+added accepted refused c =
+    record { accepted = stopped (c .accepted + accepted); refused = stopped (c .refused + refused); total = stopped (c .total + (accepted + refused)) }
 
 abbrev pub shownNext : ℕ → Counts → Counts
-shownNext number c =
-    record {
-      accepted = stoppedIf (isAccepted number) (c .accepted);
-      refused = stoppedIf (isRefused number) (c .refused);
-      total = stoppedIf (isAccepted number || isRefused number) (c .total);
-    }
+shownNext number c = added (oneIf (isAccepted number) 0) (oneIf (isRefused number) 0) c

@@ -3,9 +3,9 @@
 // The contracts are equations with the definitions of specs/Counts.antt, for every value of Counts.
 ghost use mathlib.Core.Path.{_≡_};
 ghost use mathlib.Core.List.{_++_};
-ghost use Prim.Native.Nat.{suc, _≤_};
+ghost use Prim.Native.Nat.{_+_, _≤_};
 ghost use lib.ListN.{length, drop};
-ghost use Rattle.counts.specs.Counts.{isRefused, noneCounted, stopped, shown, isSum, reportOf, shownNext};
+ghost use Rattle.counts.specs.Counts.{isRefused, noneCounted, stopped, shown, isSum, reportOf, added, shownNext};
 
 // The bytes of the three numbers.
 pub const REPORT_BYTES: usize = 24;
@@ -38,13 +38,24 @@ fn is_refused(number: u8) -> bool
     }
 }
 
-fn one_more(n: u64) -> u64
-    ensures { λ r. ⌜ r ≡ stopped (suc n) ⌝ }
+fn sum(m: u64, n: u64) -> u64
+    ensures { λ r. ⌜ r ≡ stopped (m + n) ⌝ }
 {
-    if n == u64::MAX {
-        return n;
+    if u64::MAX - m < n {
+        return u64::MAX;
     }
-    n + 1
+    m + n
+}
+
+// So many accepted and refused frames more.
+pub fn add(counts: Counts, accepted: u64, refused: u64) -> Counts
+    ensures { λ r. ⌜ r ≡ added accepted refused counts ⌝ }
+{
+    Counts {
+        accepted: sum(counts.accepted, accepted),
+        refused: sum(counts.refused, refused),
+        total: sum(sum(counts.total, accepted), refused),
+    }
 }
 
 // One answer more, by its number: 0 of an accepted frame, or the refusal's.
@@ -52,30 +63,19 @@ pub fn counted(counts: Counts, number: u8) -> Counts
     ensures { λ r. ⌜ r ≡ shownNext number counts ⌝ }
 {
     if number == 0 {
-        return Counts {
-            accepted: one_more(counts.accepted),
-            refused: counts.refused,
-            total: one_more(counts.total),
-        };
+        return add(counts, 1, 0);
     }
     if is_refused(number) {
-        return Counts {
-            accepted: counts.accepted,
-            refused: one_more(counts.refused),
-            total: one_more(counts.total),
-        };
+        return add(counts, 0, 1);
     }
-    counts
+    add(counts, 0, 0)
 }
 
 // Whether the total is the sum of the other two, stopped.
 pub fn is_sum(counts: Counts) -> bool
     ensures { λ r. ⌜ r ≡ isSum counts ⌝ }
 {
-    if u64::MAX - counts.accepted < counts.refused {
-        return counts.total == u64::MAX;
-    }
-    counts.total == counts.accepted + counts.refused
+    counts.total == sum(counts.accepted, counts.refused)
 }
 
 // Writes the three numbers at the front, 8 bytes each.

@@ -48,7 +48,7 @@ fn take_frames(state: State, piece: &[u8], answers: &mut [u8]) -> HandedOn
         state = taken.state;
         used += taken.used;
         len += taken.len;
-        if 0 < taken.len {
+        if 0 < taken.len && used < piece.len() {
             let run = runs::answer_run(state.view, &piece[used..], &mut answers[len..]);
             state = service::between(run.view);
             used += run.used;

@@ -13,15 +13,16 @@ use Rattle.exp2m1.specs.Score.{steps, scoreBits}
 use Rattle.counts.specs.Counts.{isRefused, most, stopped, isSum, reportOf}
 use Rattle.counts.specs.declared.Counts.{Counts}
 use Rattle.frames.specs.Frame.{answerRoom, bodyLength, whole, kept, isKind, kindOf, badPayload, refusalTo, refusalFrame}
-use Rattle.answers.specs.Answers.{resultAt, resultsOf, accepted, answerTo, answerOf, isReport}
+use Rattle.answers.specs.Answers.{resultAt, resultsOf, itemsIn, accepted, answerTo, answerOf, isReport}
 use Rattle.memory.specs.Memory.{Sized, showsMemory}
 use Rattle.memory.specs.declared.View.{View}
 use Rattle.partial_frame.specs.State.{keptBytes, placesOf, isLeft, bytesIn}
 use Rattle.service.specs.Book.{Book, emptyBook, stateWith, Call, Take, Close, Reply, bookCall, bookReplies, replyOf}
 use Rattle.service.specs.Service.{freshState, isGood, bookOf, untouched, takeOf, closeOf, stateAfter}
-use Rattle.demands.specs.Stream.{byte, joined, pointsOf, written}
+use Rattle.demands.specs.Stream.{byte, joined, frame, pointsOf, written}
 use Rattle.demands.specs.Demands.{report, run, replyAfter, handedOn, AllLarge, blanked, Alike, SameAnswers, Unreached}
 use Rattle.service.specs.declared.State.{State}
+use Rattle.demands.proofs.Isolation.{same-frame}
 use Rattle.demands.proofs.Demands.{demand-1, demand-3}
 use Rattle.demands.proofs.Counts.{counts}
 
@@ -123,7 +124,7 @@ pub replies :
     ∷ (2 ∷ 4 ∷ 1 ∷ [])
     ∷ (5 ∷ 4 ∷ 5 ∷ [])
     ∷ [])
-unfolding takeOf closeOf isGood bookOf isLeft bytesIn placesOf keptBytes whole kept refusalTo isKind kindOf badPayload resultAt resultsOf accepted answerTo answerOf scoreBits steps ofBits toBits numberAt wordBytes isRefused stopped isSum reportOf
+unfolding takeOf closeOf isGood bookOf isLeft bytesIn placesOf keptBytes whole kept refusalTo isKind kindOf badPayload resultAt resultsOf itemsIn accepted answerTo answerOf scoreBits steps ofBits toBits numberAt wordBytes isRefused stopped isSum reportOf
 replies = (refl, refl, refl, refl)
 
 -- ---- demand 3
@@ -156,6 +157,11 @@ fresh-refused = demand-3 .fresh [] (Take (0 ∷ 0 ∷ []) room) (λ e. cons≢ni
 pub fresh-closed : replyAfter [] (Close room) .state ≡ freshState
 fresh-closed = demand-3 .fresh [] (Close room) (λ e. cons≢nil e)
 
+-- a refused report keeps its answer
+pub refused-report : {a b : List ℕ} → SameAnswers (frame (0 ∷ 3 ∷ 1 ∷ 4 ∷ 0 ∷ []) ∷ []) (frame (0 ∷ 3 ∷ 1 ∷ 4 ∷ 0 ∷ []) ∷ []) (a ∷ []) (b ∷ []) → a ≡ b
+unfolding isReport refusalTo isKind kindOf badPayload
+refused-report s = same-frame refl s .0
+
 -- the one frame whose answer differs in both
 pub report-shows : showsMemory report ≡ true
 unfolding isReport refusalTo isKind kindOf badPayload
@@ -168,7 +174,7 @@ one-report = demand-3 .reports report refl report-shows
 
 -- after all of it 4 accepted, the report too, and 3 refused; the report had what came before it
 pub counted-sent : (stateAfter freshState sent .view ≡ counting 4 3 7) × (written (replyAfter before (Take report room) ∷ []) ≡ reported 3 1 4 ∷ [])
-unfolding takeOf closeOf isGood bookOf isLeft bytesIn placesOf keptBytes whole kept refusalTo isKind kindOf badPayload resultAt resultsOf accepted answerTo answerOf scoreBits steps ofBits toBits numberAt wordBytes isRefused stopped isSum reportOf
+unfolding takeOf closeOf isGood bookOf isLeft bytesIn placesOf keptBytes whole kept refusalTo isKind kindOf badPayload resultAt resultsOf itemsIn accepted answerTo answerOf scoreBits steps ofBits toBits numberAt wordBytes isRefused stopped isSum reportOf
 counted-sent = (
   ap (λ (c : Counts). record { counts = c }) (counts .states sent),
   counts .reports before (Take report room) refl,
@@ -197,7 +203,7 @@ past-the-end cs = demand-1 .sameOnward (countedTo most) (countedTo 3689348814741
 -- ---- demand 1
 
 small : Sized (counting 0 0 0)
-small = record { accepted = omega arith; refused = omega arith }
+small = record { accepted = omega arith; refused = omega arith; total = omega arith }
 
 -- the second length byte is there before it came
 early-unreached : Unreached (stateAt 1 0 1)

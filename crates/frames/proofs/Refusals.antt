@@ -72,41 +72,48 @@ module _ (n : ℕ) (b : List ℕ) where
 
 -- ---- the numbers
 
+-- what holds of 0, 1 to 5 and 11 holds of every refusal of a sender
+module _ (P : ℕ → Type 0) where
+  cond-by : (t : Bool) {x y : ℕ} → P x → P y → P (cond t x y)
+  cond-by true h k = h
+  cond-by false h k = k
+
+  or-by : (m : ℕ) {n : ℕ} → P m → P n → P (orElse m n)
+  or-by zero h k = k
+  or-by (suc m) h k = h
+
+  module _ (none : P 0) (direction : P 11) where
+    direction-by : (n : Named) → P (directionRefusal n)
+    direction-by (Known d) = none
+    direction-by Unknown = direction
+
+    own-by : (kind : ℕ) (payload : List ℕ) → P (kindOf kind .own payload)
+    unfolding kindOf
+    own-by zero p = none
+    own-by (suc zero) p = none
+    own-by (suc (suc zero)) p = none
+    own-by (suc (suc (suc zero))) [] = none
+    own-by (suc (suc (suc zero))) (b ∷ p) = direction-by (directionOf b)
+    own-by (suc (suc (suc (suc zero)))) p = none
+    own-by (suc (suc (suc (suc (suc kind))))) p = none
+
+    pub refusal-by : P 1 → P 2 → P 3 → P 4 → P 5 → (n : ℕ) (b : List ℕ) → P (refusalTo n b)
+    unfolding refusalTo
+    refusal-by p1 p2 p3 p4 p5 n b =
+        cond-by (ltb n 2) p1
+        (cond-by (ltb longestBody n) p2
+        (cond-by (not (eqb (getD b 0 0) 1)) p3
+        (cond-by (not (isKind (getD b 1 0))) p4
+        (or-by (kindOf (getD b 1 0) .own (drop 2 b)) (own-by (getD b 1 0) (drop 2 b))
+        (cond-by (badPayload (getD b 1 0) (n - 2)) p5 none)))))
+
 -- a sender's number, or 0: none of 6 to 10, by which calls, the stream's end and texts are refused
 abbrev pub Senders : ℕ → Type 0
 Senders n = (n ≤ 5) ⊎ (11 ≤ n)
 
-cond-senders : (t : Bool) {x y : ℕ} → Senders x → Senders y → Senders (cond t x y)
-cond-senders true h k = h
-cond-senders false h k = k
-
-or-senders : (m : ℕ) {n : ℕ} → Senders m → Senders n → Senders (orElse m n)
-or-senders zero h k = k
-or-senders (suc m) h k = h
-
-direction-senders : (n : Named) → Senders (directionRefusal n)
-direction-senders (Known d) = inl (omega arith)
-direction-senders Unknown = inr (omega arith)
-
-own-senders : (kind : ℕ) (payload : List ℕ) → Senders (kindOf kind .own payload)
-unfolding kindOf
-own-senders zero p = inl (omega arith)
-own-senders (suc zero) p = inl (omega arith)
-own-senders (suc (suc zero)) p = inl (omega arith)
-own-senders (suc (suc (suc zero))) [] = inl (omega arith)
-own-senders (suc (suc (suc zero))) (b ∷ p) = direction-senders (directionOf b)
-own-senders (suc (suc (suc (suc zero)))) p = inl (omega arith)
-own-senders (suc (suc (suc (suc (suc kind))))) p = inl (omega arith)
-
 pub refusal-senders : (n : ℕ) (b : List ℕ) → Senders (refusalTo n b)
-unfolding refusalTo
-refusal-senders n b =
-    cond-senders (ltb n 2) (inl (omega arith))
-    (cond-senders (ltb longestBody n) (inl (omega arith))
-    (cond-senders (not (eqb (getD b 0 0) 1)) (inl (omega arith))
-    (cond-senders (not (isKind (getD b 1 0))) (inl (omega arith))
-    (or-senders (kindOf (getD b 1 0) .own (drop 2 b)) (own-senders (getD b 1 0) (drop 2 b))
-    (cond-senders (badPayload (getD b 1 0) (n - 2)) (inl (omega arith)) (inl (omega arith)))))))
+refusal-senders =
+    refusal-by Senders (inl (omega arith)) (inr (omega arith)) (inl (omega arith)) (inl (omega arith)) (inl (omega arith)) (inl (omega arith)) (inl (omega arith))
 
 -- what is not refused has a length that is kept
 pub good-length : (n : ℕ) (b : List ℕ) → refusalTo n b ≡ 0 → (2 ≤ n) × (n ≤ longestBody)

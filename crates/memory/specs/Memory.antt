@@ -4,7 +4,7 @@ use mathlib.Core.List.{List}
 use mathlib.Core.Bool.{Bool}
 use lib.ListN.{drop}
 use Rattle.frames.specs.Frame.{bodyLength}
-use Rattle.counts.specs.Counts.{Tally, noneCounted, counted, most, shown, tallyIn, isSum, shownNext}
+use Rattle.counts.specs.Counts.{Tally, noneCounted, counted, most, shown, tallyIn, isSum, added, shownNext}
 use Rattle.answers.specs.Answers.{Answer, answerTo, answerOf, isReport}
 use Rattle.memory.specs.declared.View.{View}
 
@@ -30,6 +30,7 @@ isView v = isSum (v .counts)
 pub record Sized (v : View) : Type 0 where
   pub accepted : v .counts .accepted ≤ most
   pub refused : v .counts .refused ≤ most
+  pub total : v .counts .total ≤ most
 
 -- the answer to a whole frame, and what is remembered of it
 abbrev pub answerWith : View → List ℕ → Answer
@@ -49,6 +50,10 @@ answerBy v n body = answerTo (v .counts) n body
 
 abbrev pub viewBy : View → ℕ → List ℕ → View
 viewBy v n body = record { counts = shownNext (answerBy v n body .number) (v .counts) }
+
+-- with so many accepted and refused frames more
+abbrev pub viewAdded : ℕ → ℕ → View → View
+viewAdded accepted refused v = record { counts = added accepted refused (v .counts) }
 
 abbrev pub viewWith : View → List ℕ → View
 viewWith v f = viewBy v (bodyLength f) (drop 2 f)

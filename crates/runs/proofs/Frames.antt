@@ -21,7 +21,7 @@ use Rattle.runs.specs.Runs.{Frames, Answers}
 -- ---- the frame at a place of a piece
 
 -- the bytes of the body, as the code parts them off
-abbrev bodyAt : List ℕ → ℕ → ℕ → List ℕ
+abbrev pub bodyAt : List ℕ → ℕ → ℕ → List ℕ
 bodyAt piece used n = take (used + 2 + n - (used + 2)) (drop (used + 2) piece)
 
 pub body-length : (piece : List ℕ) (used n : ℕ) → used + 2 + n ≤ length piece → length (bodyAt piece used n) ≡ n

@@ -5,9 +5,10 @@ use mathlib.Core.Path.{_≡_}
 use mathlib.Core.List.{List, [], _++_}
 use lib.ListN.{length, take, drop}
 use Rattle.frames.specs.Frame.{answerRoom, bodyLength}
-use Rattle.memory.specs.Memory.{answerWith, viewWith}
+use Rattle.memory.specs.Memory.{answerWith, viewAdded, viewWith}
 use Rattle.memory.specs.declared.View.{View}
 use Rattle.runs.specs.declared.Run.{Run}
+use Rattle.runs.specs.declared.Counted.{Counted}
 
 -- whole frames, their answers, and what is shown after them; before each frame there is room for one more answer
 pub data Frames (room : ℕ) (start : View) : List ℕ → List ℕ → View → Type 0 where
@@ -24,3 +25,8 @@ pub record Answers (v : View) (piece : List ℕ) (r : Run) (before after : List 
   pub fits : r .len ≤ length before
   pub len : r .len ≡ length answers
   pub buffer : after ≡ answers ++ drop (r .len) before
+
+-- the same with frames that are still to be added to what is shown; each has two bytes at least
+pub record AnswersCounted (v : View) (piece : List ℕ) (r : Counted) (before after : List ℕ) : Type 0 where
+  pub run : Answers v piece (record { view = viewAdded (r .accepted) (r .refused) (r .view); used = r .used; len = r .len }) before after
+  pub few : r .accepted + r .refused ≤ r .used

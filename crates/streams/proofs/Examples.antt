@@ -10,7 +10,7 @@ use Rattle.words.specs.Bytes.{numberAt, wordBytes}
 use Rattle.exp2m1.specs.Score.{steps, scoreBits}
 use Rattle.counts.specs.Counts.{isRefused, stopped, isSum}
 use Rattle.frames.specs.Frame.{answerRoom, whole, kept, isKind, kindOf, badPayload, refusalTo, refusalFrame}
-use Rattle.answers.specs.Answers.{resultAt, resultsOf, accepted, answerTo, answerOf}
+use Rattle.answers.specs.Answers.{resultAt, resultsOf, itemsIn, accepted, answerTo, answerOf}
 use Rattle.partial_frame.specs.State.{keptBytes, placesOf, isLeft, bytesIn}
 use Rattle.service.specs.Book.{stateWith}
 use Rattle.service.specs.Service.{freshState, isGood, bookOf, closeOf}
@@ -39,7 +39,7 @@ pub whole-case :
     (outputOf freshState (take 5 input ∷ drop 5 input ∷ []) room room ≡ minusOne ++ (refusalFrame 1 ++ refusalFrame 8))
     × ByTakes [] input 12 minusOne (stateWith (freshState .frame) (record { counts = record { accepted = 1; refused = 0; total = 1 } }))
     × (length room < 12 + answerRoom)
-unfolding handOn deliveryOf closeOf isGood bookOf isLeft bytesIn placesOf keptBytes whole kept refusalTo isKind kindOf badPayload resultAt resultsOf accepted answerTo answerOf scoreBits steps ofBits toBits numberAt wordBytes isRefused stopped isSum
+unfolding handOn deliveryOf closeOf isGood bookOf isLeft bytesIn placesOf keptBytes whole kept refusalTo isKind kindOf badPayload resultAt resultsOf itemsIn accepted answerTo answerOf scoreBits steps ofBits toBits numberAt wordBytes isRefused stopped isSum
 whole-case = (refl, streams .takes [] input room refl, streams .stops [] input room refl (omega arith))
 
 pub large-buffers : AllLarge (whole-case .1 .buffers)

@@ -79,19 +79,19 @@ loop-again-2 c = took (c .before .before .before .before .before .before .before
 -- ---- the run behind it
 
 sub-answer-run : tie.Need-sub-answer-run Inv-loop μ-loop
-sub-answer-run c = omega (arith, took (c .before .before .before .before .before .before .before) .going .within)
+sub-answer-run c = omega (arith, took (c .before .before .before .before .before .before .before .before) .going .within)
 
 part-answer-run-start : tie.Need-part-answer-run-start Inv-loop μ-loop
-part-answer-run-start c = omega (arith, took (c .before .before .before .before .before .before .before) .going .within)
+part-answer-run-start c = omega (arith, took (c .before .before .before .before .before .before .before .before) .going .within)
 
 part-answer-run-end : tie.Need-part-answer-run-end Inv-loop μ-loop
 part-answer-run-end c = omega arith
 
 sub-answer-run-2 : tie.Need-sub-answer-run-2 Inv-loop μ-loop
-sub-answer-run-2 c = let g = took (c .before .before .before .before .before .before .before .before) .going in omega (arith, g .room, out-length g)
+sub-answer-run-2 c = let g = took (c .before .before .before .before .before .before .before .before .before) .going in omega (arith, g .room, out-length g)
 
 part-answer-run-start-2 : tie.Need-part-answer-run-start-2 Inv-loop μ-loop
-part-answer-run-start-2 c = let g = took (c .before .before .before .before .before .before .before .before) .going in omega (arith, g .room, out-length g)
+part-answer-run-start-2 c = let g = took (c .before .before .before .before .before .before .before .before .before) .going in omega (arith, g .room, out-length g)
 
 part-answer-run-end-2 : tie.Need-part-answer-run-end-2 Inv-loop μ-loop
 part-answer-run-end-2 c = omega arith
@@ -100,7 +100,7 @@ answer-run-requires : tie.Need-answer-run-requires Inv-loop μ-loop
 answer-run-requires c κs = tt
 
 abbrev take-of : tie.After-answer-run Inv-loop μ-loop → tie.After-take Inv-loop μ-loop
-take-of r = r .before .before .before .before .before .before .before .before .before .before
+take-of r = r .before .before .before .before .before .before .before .before .before .before .before
 
 between-requires : tie.Need-between-requires Inv-loop μ-loop
 between-requires c κs = tt
@@ -109,13 +109,13 @@ add-used-2 : tie.Need-add-used-2 Inv-loop μ-loop
 add-used-2 c =
     let r = c .before .before .before .before in
     let t = took (take-of r) in
-    omega (arith, start-of (take-of r) .good .1 .0 .0, going-run (t .going) (t .no-frame (r .before .before .before .if2 .taken)) (r .answer-run .result) _ (r .answer-run .ensures) (c .before .between .ensures) .within)
+    omega (arith, start-of (take-of r) .good .1 .0 .0, going-run (t .going) (t .no-frame (r .before .before .before .before .if2 .taken)) (r .answer-run .result) _ (r .answer-run .ensures) (c .before .between .ensures) .within)
 
 loop-again : tie.Need-loop-again Inv-loop μ-loop
 loop-again c =
     let r = c .before .before .before .before .before in
     let t = took (take-of r) in
-    going-run (t .going) (t .no-frame (r .before .before .before .if2 .taken)) (r .answer-run .result) _ (r .answer-run .ensures) (c .before .before .between .ensures)
+    going-run (t .going) (t .no-frame (r .before .before .before .before .if2 .taken)) (r .answer-run .result) _ (r .answer-run .ensures) (c .before .before .between .ensures)
 
 add-len-2 : tie.Need-add-len-2 Inv-loop μ-loop
 add-len-2 c = omega (arith, start-of (take-of (c .before .before .before .before .before)) .good .1 .1 .0 .0, loop-again c .room)

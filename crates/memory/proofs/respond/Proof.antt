@@ -1,7 +1,9 @@
--- `memory::respond` meets its contract. Assumes nothing.
+-- `memory::respond` meets its contract: a refusal, a report, or the results of the items. Assumes nothing.
 use mathlib.Core.Path.{sym, _∙_}
-use Rattle.answers.proofs.Answers.{answer-refusal, refusal-written}
-use Rattle.memory.proofs.Memory.{view-by}
+use native.Mathlib.Omega.{arith}
+use Rattle.frames.proofs.Refusals.{good-length, body-length}
+use Rattle.answers.proofs.Answers.{answer-report, answer-items, refusal-written}
+use Rattle.memory.proofs.Memory.{written-as, answers-noted}
 use borrow.Author.Needs.{needs}
 use Rattle.memory.proofs.respond.Statement.{statement}
 use Rattle.memory.proofs.respond.Tie as tie
@@ -9,11 +11,11 @@ use Rattle.memory.proofs.respond.Tie as tie
 refusal-to-requires : tie.Need-refusal-to-requires
 refusal-to-requires c κs = search needs
 
-counted-requires : tie.Need-counted-requires
-counted-requires c κs = search needs
-
 write-refusal-requires : tie.Need-write-refusal-requires
 write-refusal-requires c κs = search needs
+
+noted-requires : tie.Need-noted-requires
+noted-requires c κs = search needs
 
 same-length : tie.Need-same-length
 same-length c = search needs
@@ -25,41 +27,72 @@ returns c =
     let n = s .args .n in
     let body = s .args .body .now in
     let e = c .before .before .before .before .before .before .refusal-to .ensures in
-    let w = c .before .before .write-refusal in
-    record {
-      written = refusal-written (v .counts) n body (s .args .answer .now) _ e (c .before .before .before .before .if1 .taken) (w .ensures .0) (w .ensures .1);
-      refusal = e ∙ sym (answer-refusal (v .counts) n body);
-      view = view-by v n body e (c .before .before .before .before .before .counted .ensures);
-    }
+    let w = c .before .before .before .write-refusal in
+    answers-noted v n body (c .noted .ensures) e (refusal-written (v .counts) n body (s .args .answer .now) _ e (c .before .before .before .before .before .if1 .taken) (w .ensures .0) (w .ensures .1))
 
-write-answer-requires : tie.Need-write-answer-requires
-write-answer-requires c κs = search needs
+shared-slice-read-if2 : tie.Need-shared-slice-read-if2
+shared-slice-read-if2 c =
+    let s = c .before .before .before .before .before in
+    let v = s .args .view in
+    let n = s .args .n in
+    let body = s .args .body .now in
+    let e = c .before .before .refusal-to .ensures in
+    let g = good-length n body (sym e ∙ c .before .if1 .left) in
+    omega (arith, body-length n body (g .0) (g .1) (s .pre .0))
+
+write-report-requires : tie.Need-write-report-requires
+write-report-requires c κs = search needs
+
+noted-requires-2 : tie.Need-noted-requires-2
+noted-requires-2 c κs = search needs
 
 same-length-2 : tie.Need-same-length-2
 same-length-2 c = search needs
 
 returns-2 : tie.Need-returns-2
 returns-2 c =
-    let s = c .before .before .before .before .before .before .before .before .before in
+    let s = c .before .before .before .before .before .before .before .before .before .before .before in
     let v = s .args .view in
     let n = s .args .n in
     let body = s .args .body .now in
-    let e = c .before .before .before .before .before .before .refusal-to .ensures in
-    record {
-      written = c .before .before .write-answer .ensures;
-      refusal = e ∙ sym (answer-refusal (v .counts) n body);
-      view = view-by v n body e (c .before .before .before .before .before .counted .ensures);
-    }
+    let e = c .before .before .before .before .before .before .before .before .refusal-to .ensures in
+    let z = sym e ∙ c .before .before .before .before .before .before .before .if1 .left in
+    answers-noted v n body (c .noted2 .ensures) e (written-as (sym (answer-report (v .counts) n body z (c .before .before .before .before .before .if2 .taken))) (c .before .before .before .write-report .ensures))
+
+write-answer-requires : tie.Need-write-answer-requires
+write-answer-requires c κs = search needs
+
+noted-requires-3 : tie.Need-noted-requires-3
+noted-requires-3 c κs = search needs
+
+same-length-3 : tie.Need-same-length-3
+same-length-3 c = search needs
+
+returns-3 : tie.Need-returns-3
+returns-3 c =
+    let s = c .before .before .before .before .before .before .before .before .before .before .before in
+    let v = s .args .view in
+    let n = s .args .n in
+    let body = s .args .body .now in
+    let e = c .before .before .before .before .before .before .before .before .refusal-to .ensures in
+    let z = sym e ∙ c .before .before .before .before .before .before .before .if1 .left in
+    answers-noted v n body (c .noted3 .ensures) e (written-as (sym (answer-items (v .counts) n body z (c .before .before .before .before .before .if2 .left))) (c .before .before .before .write-answer .ensures))
 
 pub respond-spec : {M : Type 1} → statement M
 respond-spec =
     tie.close
     (tie.spec
     refusal-to-requires
-    counted-requires
     write-refusal-requires
+    noted-requires
     same-length
     returns
-    write-answer-requires
+    shared-slice-read-if2
+    write-report-requires
+    noted-requires-2
     same-length-2
-    returns-2)
+    returns-2
+    write-answer-requires
+    noted-requires-3
+    same-length-3
+    returns-3)

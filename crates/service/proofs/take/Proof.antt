@@ -21,7 +21,7 @@ is-good-requires c κs = search needs
 take-good-requires : tie.Need-take-good-requires
 take-good-requires c κs =
     let s = c .before .before .before .before .before .before in
-    let z : Sized (s .args .state .view) = record { accepted = omega (arith, s .good); refused = omega (arith, s .good) } in
+    let z : Sized (s .args .state .view) = record { accepted = omega (arith, s .good); refused = omega (arith, s .good); total = omega (arith, s .good) } in
     let l : length (s .args .state .frame .body) ≡ longestBody = sym (length-map (s .args .state .frame .body) _) ∙ s .good .0 .1 .1 .0 .1 .1 .1 .1 .1 .0 .1 .0 .1 in
     let b = shown-by (s .args .state) l z (sym (c .before .before .is-good .ensures) ∙ c .before .if2 .taken) in
     (b .0, b .1, c .before .before .before .if1 .left)
