@@ -13,9 +13,7 @@ use Rattle.answers.specs.Answers.{Answer, answerOf}
 use Rattle.answers.specs.Written.{Written}
 use Rattle.answers.proofs.Answers.{answer-refusal}
 use Rattle.memory.specs.Memory.{Memory, viewOf, Sized, answerWith, remembered, answerBy, viewBy, viewAdded, viewWith}
-use Rattle.memory.specs.Answers.{Answers, notedAs}
 use Rattle.memory.specs.declared.View.{View}
-use Rattle.memory.specs.declared.Answered.{Answered}
 
 abbrev pub showing : Counts → View
 showing c = record { counts = c }
@@ -32,12 +30,6 @@ view-by v n body e c = ap showing (c ∙ ap (λ (m : ℕ). shownNext m (v .count
 -- the same answer, written
 pub written-as : {a b : Answer} {n : ℕ} {before after : List ℕ} → a ≡ b → Written a n before after → Written b n before after
 written-as {a} {b} {n} {before} {after} e w = subst (λ (x : Answer). Written x n before after) e w
-
--- an answer is written, and noted by its number
-pub answers-noted : (v : View) (n : ℕ) (body : List ℕ) {k len : ℕ} {before after : List ℕ} {r : Answered} → r ≡ notedAs v len k → k ≡ refusalTo n body
-    → Written (answerBy v n body) len before after → Answers v n body r before after
-answers-noted v n body {k} {len} {before} {after} e f w =
-    subst (λ (x : Answered). Answers v n body x before after) (sym e) (record { written = w; refusal = f ∙ sym (answer-refusal (v .counts) n body); view = view-by v n body f refl })
 
 -- ---- frames that are counted later
 

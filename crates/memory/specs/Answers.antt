@@ -2,7 +2,6 @@
 use Prim.Native.Nat.{ℕ}
 use mathlib.Core.Path.{_≡_}
 use mathlib.Core.List.{List}
-use Rattle.counts.specs.Counts.{shownNext}
 use Rattle.answers.specs.Written.{Written}
 use Rattle.memory.specs.Memory.{answerBy, viewBy}
 use Rattle.memory.specs.declared.View.{View}
@@ -13,7 +12,3 @@ pub record Answers (v : View) (n : ℕ) (body : List ℕ) (r : Answered) (before
   pub written : Written (answerBy v n body) (r .len) before after
   pub refusal : r .refusal ≡ answerBy v n body .number
   pub view : r .view ≡ viewBy v n body
-
--- an answer of so many bytes and this number
-abbrev pub notedAs : View → ℕ → ℕ → Answered
-notedAs v len number = record { view = record { counts = shownNext number (v .counts) }; len = len; refusal = number }

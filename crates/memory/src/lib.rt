@@ -7,7 +7,7 @@ ghost use lib.ListN.{length};
 ghost use Rattle.frames.specs.Frame.{answerRoom};
 ghost use Rattle.frames.specs.Body.{Body};
 ghost use Rattle.memory.specs.Memory.{startMemory, viewOf, isView, viewAdded};
-ghost use Rattle.memory.specs.Answers.{Answers, notedAs};
+ghost use Rattle.memory.specs.Answers.{Answers};
 use counts::Counts;
 use frames::REPORT;
 
@@ -37,31 +37,36 @@ pub fn is_view(view: View) -> bool
     counts::is_sum(view.counts)
 }
 
-// An answer of so many bytes goes into what is shown.
-fn noted(view: View, len: usize, refusal: u8) -> Answered
-    ensures { λ r. ⌜ r ≡ notedAs view len refusal ⌝ }
-{
-    let counts = counts::counted(view.counts, refusal);
-    let view = View { counts };
-    Answered { view, len, refusal }
-}
-
 // Answers a whole frame with a body of n bytes. Where n is 2 to 514, body is that body; another length is refused by itself.
 pub fn respond(view: View, n: usize, body: &[u8], answer: &mut [u8]) -> Answered
     requires { ⌜ Body n (now body) × (answerRoom ≤ length (now answer)) ⌝ }
     ensures { λ r. ⌜ Answers view n (now (body .entry)) r (now (answer .entry)) (now (answer .exit)) ⌝ }
 {
     let refusal = frames::refusal_to(n, body);
+    let counts = counts::counted(view.counts, refusal);
+    let after = View { counts };
     if refusal != 0 {
         let len = frames::write_refusal(refusal, answer);
-        return noted(view, len, refusal);
+        return Answered {
+            view: after,
+            len,
+            refusal,
+        };
     }
     if body[1] == REPORT {
         let len = answers::write_report(view.counts, answer);
-        return noted(view, len, refusal);
+        return Answered {
+            view: after,
+            len,
+            refusal,
+        };
     }
     let len = answers::write_answer(n, body, answer);
-    noted(view, len, refusal)
+    Answered {
+        view: after,
+        len,
+        refusal,
+    }
 }
 
 // What is shown with so many accepted and refused frames more, none of them a report.
