@@ -2,11 +2,11 @@
 -- Assumes nothing.
 use Prim.Native.Nat.{ℕ}
 use mathlib.Core.Path.{_≡_, refl}
-use mathlib.Core.List.{List, [], _∷_, _++_, map}
-use mathlib.Core.Bool.{Bool, true, false}
+use mathlib.Core.List.{List, [], _∷_, map}
+use mathlib.Core.Bool.{true, false}
 use lib.ListN.{replicate}
 use Rattle.words.specs.Bytes.{wordBytes}
-use Rattle.counts.specs.Counts.{isAccepted, isRefused, Tally, noneCounted, counted, most, stopped, shown, isSum, reportOf, shownNext}
+use Rattle.counts.specs.Counts.{isRefused, Tally, noneCounted, counted, most, stopped, shown, isSum, reportOf, shownNext}
 use Rattle.counts.specs.declared.Counts.{Counts}
 
 abbrev countedAll : List ℕ → Tally → Tally

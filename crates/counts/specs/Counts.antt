@@ -1,6 +1,6 @@
 -- The counts of a report (document 02, A.6): what is counted of the answers, without an end, and what is shown of it, stopped.
 -- Definitions only.
-use Prim.Native.Nat.{ℕ, zero, suc, _+_, min}
+use Prim.Native.Nat.{ℕ, suc, _+_, min}
 use mathlib.Core.List.{List, [], _∷_, _++_}
 use mathlib.Core.Bool.{Bool, true, false, _||_}
 use lib.Dec.{eqb}

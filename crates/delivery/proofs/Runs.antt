@@ -14,7 +14,7 @@ use Rattle.partial_frame.proofs.Held.{empty-held}
 use Rattle.memory.specs.Memory.{Memory, viewOf, answerWith, remembered, viewWith}
 use Rattle.memory.specs.declared.View.{View}
 use Rattle.memory.proofs.Memory.{view-after}
-use Rattle.service.specs.Book.{Book, Entry, Moved, stateWith, stateOf, emptied, move, oneMore, settled, answeredBy, bookTake}
+use Rattle.service.specs.Book.{Book, Entry, Moved, stateWith, emptied, move, oneMore, settled, answeredBy, bookTake}
 use Rattle.service.specs.declared.State.{State}
 use Rattle.service.proofs.Simulation.{whole-none, move-whole, move-on}
 use Rattle.runs.specs.Runs.{Frames, Answers}

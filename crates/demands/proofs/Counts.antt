@@ -1,20 +1,19 @@
 -- What states and reports show is counted from the answers written, and what their total decides. Assumes nothing.
 use Prim.Native.Nat.{ℕ, _+_}
-use mathlib.Core.Path.{_≡_, refl, sym, ap, subst, _∙_}
-use mathlib.Core.Logic.{_≢_}
+use mathlib.Core.Path.{_≡_, refl, sym, ap, _∙_}
 use mathlib.Core.List.{List, [], _∷_, _++_}
 use mathlib.Core.Bool.{Bool, true, false, _&&_}
 use native.Mathlib.Omega.{arith}
-use lib.ListN.{length, getD, drop}
+use lib.ListN.{getD, drop}
 use borrow.Author.Tests.{eq-eqb, ne-eqb}
-use Rattle.frames.specs.Frame.{bodyLength, whole, isKind, kindOf, badPayload, refusalTo}
-use Rattle.counts.specs.Counts.{isAccepted, isRefused, Tally, oneIf, stopped, shown, isSum, reportOf}
+use Rattle.frames.specs.Frame.{bodyLength, isKind, kindOf, badPayload, refusalTo}
+use Rattle.counts.specs.Counts.{isAccepted, isRefused, Tally, oneIf, shown, isSum, reportOf}
 use Rattle.answers.specs.Answers.{answerFrame, accepted, answerTo, answerOf}
 use Rattle.answers.proofs.Answers.{answer-code}
 use Rattle.partial_frame.specs.State.{isLeft}
 use Rattle.memory.specs.Memory.{Memory, viewOf, answerWith, remembered}
-use Rattle.service.specs.Book.{Book, emptyBook, stateOf, Call, Take, Close, Reply, bufferOf, bookTake, bookClose, bookCall, replyOf, isSmall}
-use Rattle.service.specs.Service.{freshState, isGood, bookOf, untouched, takeOf, closeOf, serviceCall, stateAfter}
+use Rattle.service.specs.Book.{emptyBook, Call, Take, Close, Reply, bufferOf, isSmall}
+use Rattle.service.specs.Service.{isGood, bookOf, untouched, takeOf, closeOf, serviceCall}
 use Rattle.service.specs.declared.State.{State}
 use Rattle.service.proofs.Simulation.{whole-none}
 use Rattle.service.proofs.Calls.{take-bad, close-bad}

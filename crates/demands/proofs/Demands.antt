@@ -8,8 +8,8 @@ use native.Mathlib.Omega.{arith}
 use lib.ListN.{length, take, drop, length-drop, take-append-drop}
 use Rattle.frames.specs.Frame.{longestBody, whole}
 use Rattle.frames.proofs.Refusals.{Senders}
-use Rattle.partial_frame.specs.State.{frameOf, isLeft}
-use Rattle.memory.specs.Memory.{Memory, viewOf, Sized, isView}
+use Rattle.partial_frame.specs.State.{frameOf}
+use Rattle.memory.specs.Memory.{Memory, viewOf, Sized}
 use Rattle.service.specs.Book.{Book, emptyBook, stateWith, Call, Take, Close, Entry, Moved, Reply, move, settled, bookTake, closedWith, bookCall, bookReplies, isSmall}
 use Rattle.service.specs.Service.{freshState, isGood, bookOf, takeOf, serviceRun}
 use Rattle.demands.specs.Stream.{Item, byte, joined, joinedFrom, movedBy, pointsOf, answersFrom, written}

@@ -1,6 +1,6 @@
 -- One whole frame more of a run whose frames are counted: refused, accepted, or a report. Assumes nothing.
 use Prim.Native.Nat.{ℕ, _+_, _-_, _≤_}
-use mathlib.Core.Path.{_≡_, refl, sym, ap, subst, _∙_}
+use mathlib.Core.Path.{_≡_, sym, ap, subst, _∙_}
 use mathlib.Core.List.{List, _++_}
 use native.Mathlib.Omega.{arith}
 use lib.ListN.{length, getD, take, drop}
@@ -10,7 +10,7 @@ use Rattle.frames.specs.Frame.{answerRoom, refusalTo, refusalFrame}
 use Rattle.answers.specs.Answers.{accepting, itemsIn}
 use Rattle.answers.specs.Written.{Written}
 use Rattle.answers.proofs.Answers.{answer-refusal, answer-items, refusal-written}
-use Rattle.memory.specs.Memory.{Sized, viewBy, viewAdded}
+use Rattle.memory.specs.Memory.{Sized, viewAdded}
 use Rattle.memory.specs.Answers.{Answers as Responds}
 use Rattle.memory.specs.declared.View.{View}
 use Rattle.memory.specs.declared.Answered.{Answered}

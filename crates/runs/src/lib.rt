@@ -24,8 +24,8 @@ struct Counted {
 }
 
 // Answers the whole frames at the piece's front while there is room for one more answer. They are read where they stand: a state for
-// each of them would be copied several times. Frames are counted here, and added where a report asks for it: what is shown goes through
-// memory, which takes longer than a refusal. A refused frame is answered here too: respond has the scores in it.
+// each of them would be copied several times. Frames are counted here, and added where a report asks for it, and respond is called for
+// reports alone: what is shown goes through memory then, which takes longer than a refusal.
 fn answer_frames(view: View, piece: &[u8], answers: &mut [u8]) -> Counted
     ensures { λ r. ⌜ AnswersCounted view (now (piece .entry)) r (now (answers .entry)) (now (answers .exit)) ⌝ }
 {

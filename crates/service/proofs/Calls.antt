@@ -7,7 +7,7 @@ use native.Mathlib.Omega.{arith}
 use lib.ListN.{length, take, drop}
 use borrow.Author.Tests.{le-ltb, leb-true, leb-false}
 use Rattle.frames.specs.Frame.{longestBody, answerRoom, bodyLength, whole, kept, refusalFrame}
-use Rattle.answers.specs.Answers.{Answer, answerOf, answerTo}
+use Rattle.answers.specs.Answers.{Answer, answerOf}
 use Rattle.partial_frame.specs.State.{frameOf, emptyFrame, bytesIn, firstBytes, isLeft, lengthIn, filled, keptBytes, placesOf}
 use Rattle.partial_frame.specs.Steps.{afterByte, wholeIn, further, advance}
 use Rattle.counts.specs.Counts.{shownNext}

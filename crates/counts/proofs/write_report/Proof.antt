@@ -1,8 +1,8 @@
 -- `counts::write_report` meets its contract: three numbers, one behind the other. Assumes nothing.
-use mathlib.Core.Path.{_≡_, _∙_}
+use mathlib.Core.Path.{_∙_}
 use mathlib.Core.List.{_++_}
 use native.Mathlib.Omega.{arith}
-use lib.ListN.{length, length-append}
+use lib.ListN.{length-append}
 use Rattle.words.specs.Bytes.{wordBytes}
 use Rattle.words.proofs.Numbers.{length-word}
 use Rattle.words.proofs.Parts.{put-behind}

@@ -1,6 +1,6 @@
 -- `runs::answer_frames` meets its contract: each turn is one whole frame more. Assumes nothing.
 use Prim.Native.Nat.{_-_}
-use mathlib.Core.Path.{_≡_, sym, ap, _∙_}
+use mathlib.Core.Path.{sym, ap, _∙_}
 use native.Mathlib.Omega.{arith}
 use lib.ListN.{length, length-drop}
 use Rattle.words.proofs.Parts.{to-end}

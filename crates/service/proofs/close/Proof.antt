@@ -1,15 +1,13 @@
 -- `service::close` meets its contract: refusal 6, refusal 7, nothing, or refusal 8. Assumes nothing.
-use Prim.Native.Nat.{ℕ}
 use mathlib.Core.Path.{_≡_, sym, ap, _∙_}
 use mathlib.Core.Bool.{true}
 use native.Mathlib.Omega.{arith}
 use lib.ListN.{length, length-map}
 use borrow.Author.Tests.{lt-ltb, le-ltb}
 use Rattle.frames.specs.Frame.{longestBody, answerRoom}
-use Rattle.partial_frame.specs.State.{emptyFrame}
 use Rattle.memory.specs.Memory.{Sized}
 use Rattle.service.specs.declared.State.{State}
-use Rattle.service.specs.Book.{Reply, stateWith, stateOf}
+use Rattle.service.specs.Book.{Reply, stateOf}
 use Rattle.service.specs.Service.{isGood, bookOf, closedOf}
 use Rattle.service.proofs.Calls.{shown-by, close-small, close-bad, close-none, close-some, closed-by}
 use borrow.Author.Needs.{needs}
