@@ -18,7 +18,7 @@ use Rattle.memory.specs.Memory.{Sized, showsMemory}
 use Rattle.memory.specs.declared.View.{View}
 use Rattle.partial_frame.specs.State.{keptBytes, placesOf, isLeft, bytesIn}
 use Rattle.service.specs.Book.{Book, emptyBook, stateWith, Call, Take, Close, Reply, bookCall, bookReplies, replyOf}
-use Rattle.service.specs.Service.{freshState, isGood, bookOf, untouched, takeOf, closeOf, stateAfter}
+use Rattle.service.specs.Service.{freshState, isGood, bookOf, untouched, takeOf, closeOf, serviceRun, stateAfter}
 use Rattle.demands.specs.Stream.{byte, joined, frame, pointsOf, written}
 use Rattle.demands.specs.Demands.{report, run, replyAfter, handedOn, AllLarge, blanked, Alike, SameAnswers, Unreached}
 use Rattle.service.specs.declared.State.{State}
@@ -247,6 +247,11 @@ begun-takes piece = demand-1 .take begun piece room refl
 pub begun-closes : closeOf (stateAt 1 0 0) room ≡ replyOf (bookCall begun (Close room)) room
 unfolding whole placesOf keptBytes kept stopped
 begun-closes = demand-1 .close begun room refl
+
+-- and all that comes behind it
+pub begun-onward : (cs : List Call) → serviceRun (stateAt 1 0 0) cs ≡ bookReplies begun cs
+unfolding whole placesOf keptBytes kept stopped
+begun-onward cs = demand-1 .onward begun cs refl
 
 pub begun-uses : 1 ≤ takeOf (stateAt 1 0 0) (0 ∷ 5 ∷ []) room .used
 begun-uses =
