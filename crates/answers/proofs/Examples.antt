@@ -1,4 +1,4 @@
--- Worked examples of specs/Answers.antt, computed: kind 3 in each direction, and beside it kind 2; a report, and one with a payload.
+-- Worked examples of specs/Answers.antt, computed: kind 3 in each direction, and beside it kind 2; NaNs; a report, and one with a payload.
 -- Assumes nothing.
 use Prim.Native.Nat.{ℕ}
 use mathlib.Core.Path.{_≡_, refl}
@@ -6,6 +6,7 @@ use mathlib.Core.List.{List, [], _∷_, _++_, map}
 use lib.ListN.{length, replicate}
 use Rattle.words.specs.Bytes.{numberAt, wordBytes}
 use Rattle.ieee754.specs.Operations.{fusedBits}
+use Rattle.exp2m1.specs.Score.{scoreBits}
 use Rattle.frames.specs.Frame.{isKind, kindOf, badPayload, refusalTo, refusalFrame}
 use Rattle.counts.specs.Counts.{reportOf}
 use Rattle.counts.specs.declared.Counts.{Counts}
@@ -43,6 +44,16 @@ in-each = refl
 pub to-nearest : answer (1 ∷ 2 ∷ triples) ≡ results 0x3ff0000000000000 0
 unfolding answerTo accepted itemsIn resultsOf resultAt directionIn refusalTo isKind kindOf badPayload numberAt wordBytes fusedBits
 to-nearest = refl
+
+-- a NaN weight; as b and c of a triple, and as c alone beside 0 * infinity, to nearest and up
+abbrev nans : List ℕ
+nans = triple 0 0xfff0000000000002 0x7ff0000000000003 ++ triple 0 0x7ff0000000000000 0x7ff0000000000003
+
+pub missing :
+    answer (1 ∷ 1 ∷ (wordBytes 0xfff0000000000001 ++ wordBytes 0x7fffffffffffffff)) ∷ answer (1 ∷ 2 ∷ nans) ∷ answer (1 ∷ 3 ∷ 2 ∷ nans) ∷ []
+    ≡ results 0xfff8000000000001 0x7fffffffffffffff ∷ results 0xfff8000000000002 0x7ff8000000000003 ∷ results 0xfff8000000000002 0x7ff8000000000003 ∷ []
+unfolding answerTo accepted itemsIn resultsOf resultAt directionIn refusalTo isKind kindOf badPayload numberAt wordBytes scoreBits fusedBits
+missing = refl
 
 -- 28 bytes; with a byte or with 24 it is 5
 abbrev eight : ℕ → ℕ → List ℕ

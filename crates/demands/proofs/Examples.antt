@@ -68,7 +68,7 @@ abbrev damaged : List Call
 damaged =
     Take (0 ∷ 10 ∷ 1 ∷ []) room
     ∷ Take (drop 3 (one 1 1 0xc0 0x4b) ++ (0 ∷ [])) room
-    ∷ Take (one 1 1 0x7f 0xff) room
+    ∷ Take (one 1 1 0xff 0xf1) room
     ∷ Take (one 0xff 1 0xc0 0x4b) room
     ∷ Take (0 ∷ 3 ∷ 1 ∷ 3 ∷ 4 ∷ []) room
     ∷ Take report room
@@ -102,7 +102,7 @@ pub replies :
     ∷ [])
     × (written (run damaged)
     ≡ one 1 0 0xbf 0xf0
-    ∷ one 1 0 0x7f 0xf8
+    ∷ one 1 0 0xff 0xf9
     ∷ refusalFrame 3
     ∷ refusalFrame 11
     ∷ reported 2 2 4

@@ -13,6 +13,7 @@ use lib.Ieee.{Float, nan, inf, fin, binary64, odd, ofFields, ofBits, toBits, le,
 use lib.Ieee.Exact.{HasValue, odd-sign}
 use lib.Ieee.Order.{le-of-values}
 use lib.Ieee.Bits.{ofBits-toBits, toBits-lt, nanBits-is, nanBits-above}
+use Rattle.ieee754.proofs.Nans.{only-nan}
 use Rattle.pair.specs.Pair.{bits}
 use Rattle.wide.proofs.Nat.{le-or-gt}
 use Rattle.exponential.specs.Range.{Between, above, below, most, deepest}
@@ -98,12 +99,6 @@ negated a h =
 -- ---- NaN
 is-nan : (x : Float) → T (fits binary64 x) → ltb 0x7ff0000000000000 (toBits binary64 x % 2 ^ 63) ≡ isNan x
 is-nan x f = sym (nanBits-above binary64 (toBits binary64 x)) ∙ nanBits-is binary64 (toBits binary64 x) ∙ ap isNan (ofBits-toBits binary64 x f)
-
-pub only-nan : (x : Float) → isNan x ≡ true → x ≡ nan
-unfolding isNan
-only-nan nan h = refl
-only-nan (inf s) h = absurd (subst T (sym h) tt)
-only-nan (fin s m e) h = absurd (subst T (sym h) tt)
 
 pub nan-above : (x : Float) → T (fits binary64 x) → 0x7ff0000000000000 < toBits binary64 x % 2 ^ 63 → x ≡ nan
 nan-above x f h = only-nan x (sym (is-nan x f) ∙ lt-ltb _ _ h)

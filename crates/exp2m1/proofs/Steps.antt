@@ -8,13 +8,13 @@ use lib.Dec.{T, leb, lit≤, lit<}
 use lib.Ieee.{Float, nan, binary64, eq, ofBits, toBits, isNan}
 use lib.Ieee.Bits.{toBits-ofBits, nanBits-is, nanBits-above}
 use borrow.Author.Tests.{le-leb, lt-leb, le-ltb, lt-ltb, ltb-true}
+use Rattle.ieee754.proofs.Nans.{only-nan}
 use Rattle.pair.specs.Pair.{bits}
 use Rattle.exceptions.specs.declared.Entry.{Entry}
 use Rattle.exceptions.specs.Lookup.{find, orElse}
 use Rattle.exp2m1_whole.specs.Whole.{exp2m1Whole}
 use Rattle.exp2m1.specs.Phases.{zero, exp2m1Scaled, exp2m1TwoTerms, exp2m1Fast, exp2m1Accurate}
 use Rattle.exp2m1.specs.Score.{isWhole, rounded, steps}
-use Rattle.exp2m1.proofs.Patterns.{only-nan}
 
 module _ (list : List Entry) (ux : ℕ) (x : Float) where
   pub step-1 : 0x7ff0000000000000 < ux % 2 ^ 63 → steps list ux x ≡ bits 0x7ff8000000000000

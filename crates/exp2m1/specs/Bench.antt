@@ -65,8 +65,8 @@ benchValues =
     gives (fused 1 0x3fe0000000000000 1) 2 ∷
     -- fused 1, -0, +0 to +0
     gives (fused 0x3ff0000000000000 0x8000000000000000 0) 0 ∷
-    -- a NaN
-    gives (score 0xfff0000000000001) 0x7ff8000000000000 ∷
+    -- a NaN, to itself with its top fraction bit set
+    gives (score 0xfff0000000000001) 0xfff8000000000001 ∷
     []
 
 pub bench-values : T (allRight benchValues)

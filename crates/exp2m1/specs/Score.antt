@@ -1,11 +1,11 @@
 -- The score of a weight: document 01, "One weight, range by range", steps 1 to 8; by request A.4 any list of entries may stand in for the first exception table. Definitions only.
 use Prim.Native.Nat.{ℕ, _%_, _^_}
 use mathlib.Core.Bool.{Bool, _&&_, cond}
-use mathlib.Core.List.{List}
+use mathlib.Core.List.{List, [], _∷_}
 use lib.Dec.{leb, ltb, eqb}
 use lib.Ieee.{Float, binary64, add, sub, eq, le, toBits}
 use Rattle.rounding.specs.declared.Direction.the-variants.{Down}
-use Rattle.ieee754.specs.Operations.{roundToIntegral}
+use Rattle.ieee754.specs.Operations.{roundToIntegral, firstNan}
 use Rattle.pair.specs.Pair.{bits}
 use Rattle.exceptions.specs.declared.Entry.{Entry}
 use Rattle.exceptions.specs.declared.Stretch.the-variants.{First}
@@ -31,7 +31,7 @@ rounded e r =
 unfoldable pub steps : List Entry → ℕ → Float → Float
 steps list ux x =
     let ax = ux % 2 ^ 63 in
-    -- 1. NaN
+    -- 1. NaN: the one that floats have; its bits are those of scoreWith
     cond (ltb 0x7ff0000000000000 ax) (bits 0x7ff8000000000000)
     -- 2. x <= -54: -1
     (cond (leb 0xc04b000000000000 ux) (bits 0xbff0000000000000)
@@ -46,10 +46,11 @@ steps list ux x =
     -- 7. the fast phase, and 8. the accurate phase where that does not decide
     (rounded (exp2m1Fast x (leb ax 0x3fc0000000000000)) (exp2m1Accurate x)))))))
 
--- the bits of the score
+-- the bits of the score; of a NaN its own, by request A.7
 abbrev pub scoreWith : List Entry → ℕ → ℕ
-scoreWith list ux = toBits binary64 (steps list ux (bits ux))
+scoreWith list ux = firstNan (ux ∷ []) (toBits binary64 (steps list ux (bits ux)))
 
 -- the first exception table in step 5
 unfoldable pub scoreBits : ℕ → ℕ
+unfolding firstNan
 scoreBits ux = scoreWith (entries First) ux

@@ -13,7 +13,10 @@ use exceptions::Stretch;
 use exp2m1_tiny::Estimate;
 use exponential::LN2H;
 use exponential::LN2L;
+use operands::quiet;
 use pair::Pair;
+use rounding::INFINITY;
+use rounding::SIGN;
 ghost use mathlib.Core.Path.{_≡_};
 ghost use Prim.Native.Nat.{_%_, _^_, _<_};
 ghost use lib.Dec.{leb};
@@ -44,10 +47,13 @@ const SCALED: u64 = 0x3970000000000000;
 
 const SMALL: u64 = 0x3cc0527dbd87e24d;
 
-// The score of the weight with the bits x: the bits of 2^x - 1.
+// The score of the weight with the bits x: the bits of 2^x - 1, or of a NaN its own, quiet.
 pub fn score(x: u64) -> u64
     ensures { λ r. ⌜ r ≡ scoreBits x ⌝ }
 {
+    if INFINITY < x % SIGN {
+        return quiet(x);
+    }
     math::to_bits(exp2m1(math::from_bits(x)))
 }
 

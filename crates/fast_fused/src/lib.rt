@@ -8,7 +8,7 @@ ghost use lib.Ieee.{toBits, binary64};
 ghost use Rattle.wide.specs.Words.{value, jammed};
 ghost use Rattle.rounding.specs.declared.Direction.the-variants.{Nearest};
 ghost use Rattle.ieee754.specs.Operations.{sumTo, fusedBits};
-ghost use Rattle.operands.specs.Machine.{fieldOf, Reads, Summands, RoundsSum};
+ghost use Rattle.operands.specs.Machine.{fieldOf, Reads, Summands, RoundsSum, fusedFloats};
 ghost use Rattle.fast_fused.specs.Machine.{Near, NearParts, Small, SmallParts, SumOf};
 use operands::Parts;
 use operands::field;
@@ -119,7 +119,7 @@ fn round_exact(neg: bool, w: Wide, e: u64) -> u64
 
 fn fused_near(a: u64, b: u64, c: u64) -> u64
     requires { ⌜ Near (fieldOf a) (fieldOf b) (fieldOf c) ⌝ }
-    ensures { λ r. ⌜ r ≡ fusedBits Nearest a b c ⌝ }
+    ensures { λ r. ⌜ r ≡ fusedFloats Nearest a b c ⌝ }
 {
     let x = read_normal(a);
     let y = read_normal(b);
@@ -176,7 +176,7 @@ fn add_small(s: bool, small: u64, t: bool, large: u64, e: u64) -> u64
 
 fn fused_small(a: u64, b: u64, c: u64) -> u64
     requires { ⌜ Small (fieldOf a) (fieldOf b) (fieldOf c) ⌝ }
-    ensures { λ r. ⌜ r ≡ fusedBits Nearest a b c ⌝ }
+    ensures { λ r. ⌜ r ≡ fusedFloats Nearest a b c ⌝ }
 {
     let x = read_normal(a);
     let y = read_normal(b);

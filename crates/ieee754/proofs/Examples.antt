@@ -3,13 +3,16 @@ use Prim.Native.Nat.{ℕ}
 use mathlib.Core.Bool.{Bool, true, _&&_}
 use mathlib.Core.Path.{_≡_, refl}
 use mathlib.Core.List.{List, [], _∷_, map}
+use native.Mathlib.Omega.{arith}
 use lib.ListN.{replicate}
 use lib.Dec.{eqb}
 use lib.IntN.{ℤ, pos, negsuc}
-use lib.Ieee.{binary64, toBits, ofBits}
+use lib.Ieee.{binary64, toBits, ofBits, nanBits}
 use Rattle.rounding.specs.declared.Direction.{Direction}
 use Rattle.rounding.specs.declared.Direction.the-variants.{Nearest, TowardZero, Up, Down}
-use Rattle.ieee754.specs.Operations.{roundToIntegral, scaleB, fusedBits, roundBits, floorBits, scaleBits}
+use Rattle.ieee754.specs.Operations.{roundToIntegral, scaleB, quiet, fusedBits, roundBits, floorBits, scaleBits}
+use Rattle.ieee754.specs.Nans.{Returned}
+use Rattle.ieee754.proofs.Nans.{quiets}
 
 -- ---- patterns
 
@@ -47,20 +50,51 @@ infinity = 0x7ff0000000000000
 abbrev minusInfinity : ℕ
 minusInfinity = 0xfff0000000000000
 
--- the pattern of each NaN result, and another NaN
-abbrev nanResult : ℕ
-nanResult = 0x7ff8000000000000
+-- an invalid operation's NaN
+abbrev invalid : ℕ
+invalid = 0x7ff8000000000000
 
-abbrev otherNan : ℕ
-otherNan = 0xfff0000000000001
+-- NaNs of either sign, the top fraction bit clear in the first two and set in the third, and what they are returned as
+abbrev nanA : ℕ
+nanA = 0x7ff0000000000001
+
+abbrev nanB : ℕ
+nanB = 0xfff7ffffffffffff
+
+abbrev nanC : ℕ
+nanC = 0xfff8000000000002
+
+abbrev quietA : ℕ
+quietA = 0x7ff8000000000001
+
+abbrev quietB : ℕ
+quietB = 0xffffffffffffffff
+
+abbrev quietC : ℕ
+quietC = 0xfff8000000000002
+
+-- ---- what a NaN is returned as: of each sign the least and the largest with the top fraction bit clear, and set
+pub quieted :
+    map quiet (0x7ff0000000000001 ∷ 0x7ff7ffffffffffff ∷ 0x7ff8000000000000 ∷ 0x7fffffffffffffff ∷ 0xfff0000000000001 ∷ 0xfff7ffffffffffff ∷ 0xfff8000000000000 ∷ 0xffffffffffffffff ∷ [])
+    ≡ 0x7ff8000000000001 ∷ 0x7fffffffffffffff ∷ 0x7ff8000000000000 ∷ 0x7fffffffffffffff ∷ 0xfff8000000000001 ∷ 0xffffffffffffffff ∷ 0xfff8000000000000 ∷ 0xffffffffffffffff ∷ []
+unfolding quiet
+quieted = refl
+
+-- the last starred value is the NaN so, and the NaN itself is not
+pub returned : Returned 0xfff0000000000001 0xfff8000000000001 × (Returned 0xfff0000000000001 0xfff0000000000001 → ⊥)
+unfolding nanBits quiet
+returned = (quiets 0xfff0000000000001 refl .0, λ r. clear refl (r .top))
+  where
+    clear : {x : ℕ} → x ≡ 0 → x ≡ 1 → ⊥
+    clear e f = omega arith
 
 -- ---- fused multiply-add: special values
 
 -- a * b plus -infinity, -1, -0, 0, 1, infinity and a NaN
 abbrev plusEach : ℕ → ℕ → List ℕ
-plusEach a b = map (fusedBits Nearest a b) (minusInfinity ∷ minusOne ∷ minusZero ∷ 0 ∷ one ∷ infinity ∷ otherNan ∷ [])
+plusEach a b = map (fusedBits Nearest a b) (minusInfinity ∷ minusOne ∷ minusZero ∷ 0 ∷ one ∷ infinity ∷ nanC ∷ [])
 
--- zero times infinity, both ways round and with each sign; a NaN times a number, an infinity, a zero and a NaN
+-- zero times infinity, both ways round and with each sign: invalid, and with a NaN addend the addend
 pub invalid-products :
     plusEach infinity 0
     ∷ plusEach 0 infinity
@@ -68,19 +102,33 @@ pub invalid-products :
     ∷ plusEach 0 minusInfinity
     ∷ plusEach infinity minusZero
     ∷ plusEach minusZero infinity
-    ∷ plusEach otherNan one
-    ∷ plusEach one otherNan
-    ∷ plusEach otherNan infinity
-    ∷ plusEach infinity otherNan
-    ∷ plusEach otherNan 0
-    ∷ plusEach 0 otherNan
-    ∷ plusEach otherNan otherNan
     ∷ []
-    ≡ replicate 13 (replicate 7 nanResult)
+    ≡ replicate 6 (invalid ∷ invalid ∷ invalid ∷ invalid ∷ invalid ∷ invalid ∷ quietC ∷ [])
 unfolding fusedBits
 invalid-products = refl
 
--- an infinity times an infinity or a number: the infinity less itself is a NaN
+-- a NaN times a number, an infinity, a zero and a NaN: the first of the three that is a NaN
+pub nan-products :
+    plusEach nanA one
+    ∷ plusEach nanA infinity
+    ∷ plusEach nanA 0
+    ∷ plusEach nanA nanB
+    ∷ plusEach one nanB
+    ∷ plusEach infinity nanB
+    ∷ plusEach 0 nanB
+    ∷ []
+    ≡ replicate 7 quietA
+    ∷ replicate 7 quietA
+    ∷ replicate 7 quietA
+    ∷ replicate 7 quietA
+    ∷ replicate 7 quietB
+    ∷ replicate 7 quietB
+    ∷ replicate 7 quietB
+    ∷ []
+unfolding fusedBits
+nan-products = refl
+
+-- an infinity times an infinity or a number: the infinity less itself is invalid
 pub infinite-products :
     plusEach infinity infinity
     ∷ plusEach minusInfinity minusInfinity
@@ -89,7 +137,7 @@ pub infinite-products :
     ∷ plusEach minusInfinity minusOne
     ∷ plusEach minusOne minusInfinity
     ∷ []
-    ≡ replicate 6 (nanResult ∷ infinity ∷ infinity ∷ infinity ∷ infinity ∷ infinity ∷ nanResult ∷ [])
+    ≡ replicate 6 (invalid ∷ infinity ∷ infinity ∷ infinity ∷ infinity ∷ infinity ∷ quietC ∷ [])
 unfolding fusedBits
 infinite-products = refl
 
@@ -101,7 +149,7 @@ pub negative-infinite-products :
     ∷ plusEach minusInfinity one
     ∷ plusEach one minusInfinity
     ∷ []
-    ≡ replicate 6 (minusInfinity ∷ minusInfinity ∷ minusInfinity ∷ minusInfinity ∷ minusInfinity ∷ nanResult ∷ nanResult ∷ [])
+    ≡ replicate 6 (minusInfinity ∷ minusInfinity ∷ minusInfinity ∷ minusInfinity ∷ minusInfinity ∷ invalid ∷ quietC ∷ [])
 unfolding fusedBits
 negative-infinite-products = refl
 
@@ -115,13 +163,13 @@ pub finite-products :
     ∷ plusEach one minusOne
     ∷ plusEach minusOne minusOne
     ∷ []
-    ≡ (minusInfinity ∷ minusOne ∷ 0 ∷ 0 ∷ one ∷ infinity ∷ nanResult ∷ [])
-    ∷ (minusInfinity ∷ minusOne ∷ minusZero ∷ 0 ∷ one ∷ infinity ∷ nanResult ∷ [])
-    ∷ (minusInfinity ∷ minusOne ∷ minusZero ∷ 0 ∷ one ∷ infinity ∷ nanResult ∷ [])
-    ∷ (minusInfinity ∷ 0 ∷ one ∷ one ∷ two ∷ infinity ∷ nanResult ∷ [])
-    ∷ (minusInfinity ∷ minusTwo ∷ minusOne ∷ minusOne ∷ 0 ∷ infinity ∷ nanResult ∷ [])
-    ∷ (minusInfinity ∷ minusTwo ∷ minusOne ∷ minusOne ∷ 0 ∷ infinity ∷ nanResult ∷ [])
-    ∷ (minusInfinity ∷ 0 ∷ one ∷ one ∷ two ∷ infinity ∷ nanResult ∷ [])
+    ≡ (minusInfinity ∷ minusOne ∷ 0 ∷ 0 ∷ one ∷ infinity ∷ quietC ∷ [])
+    ∷ (minusInfinity ∷ minusOne ∷ minusZero ∷ 0 ∷ one ∷ infinity ∷ quietC ∷ [])
+    ∷ (minusInfinity ∷ minusOne ∷ minusZero ∷ 0 ∷ one ∷ infinity ∷ quietC ∷ [])
+    ∷ (minusInfinity ∷ 0 ∷ one ∷ one ∷ two ∷ infinity ∷ quietC ∷ [])
+    ∷ (minusInfinity ∷ minusTwo ∷ minusOne ∷ minusOne ∷ 0 ∷ infinity ∷ quietC ∷ [])
+    ∷ (minusInfinity ∷ minusTwo ∷ minusOne ∷ minusOne ∷ 0 ∷ infinity ∷ quietC ∷ [])
+    ∷ (minusInfinity ∷ 0 ∷ one ∷ one ∷ two ∷ infinity ∷ quietC ∷ [])
     ∷ []
 unfolding fusedBits
 finite-products = refl
@@ -171,6 +219,23 @@ pub zero-sums :
 unfolding fusedBits
 zero-sums = refl
 
+-- 0 * infinity + 1; infinity - infinity; NaNs as a, as b and as c, in pairs and all three; 0 * infinity + a NaN
+pub nans-in-each :
+    fusedEach 0 infinity one invalid invalid invalid invalid
+    && fusedEach infinity one minusInfinity invalid invalid invalid invalid
+    && fusedEach nanA one one quietA quietA quietA quietA
+    && fusedEach one nanB one quietB quietB quietB quietB
+    && fusedEach one one nanC quietC quietC quietC quietC
+    && fusedEach nanA nanB one quietA quietA quietA quietA
+    && fusedEach nanA one nanC quietA quietA quietA quietA
+    && fusedEach one nanB nanC quietB quietB quietB quietB
+    && fusedEach nanA nanB nanC quietA quietA quietA quietA
+    && fusedEach nanC nanB nanA quietC quietC quietC quietC
+    && fusedEach 0 infinity nanC quietC quietC quietC quietC
+    ≡ true
+unfolding fusedBits
+nans-in-each = refl
+
 -- 1 + 2^-1074; 1 - 2^-1074; -2^-1074 + 1; -1 - 2^-1074; the tie 1 + 3 * 2^-53; 2^-1074 * 2^-1074, and negative; the largest number * 2, and negative
 pub inexact-sums :
     fusedEach one one least one one 0x3ff0000000000001 one
@@ -193,7 +258,7 @@ abbrev wholes : ℕ → ℕ → ℕ → Bool
 wholes x nearest below = eqb (roundBits x) nearest && eqb (floorBits x) below
 
 -- -infinity, the largest number negative, -2.5, -1.5, -0.5, -2^-1074, -0, 0, 2^-1074, the largest subnormal number, 0.5 and the number
--- after it, 1.5, 2.5, the ties 2^51 + 0.5 and 2^52 - 0.5, 2^52 + 1, the largest number, infinity, a NaN
+-- after it, 1.5, 2.5, the ties 2^51 + 0.5 and 2^52 - 0.5, 2^52 + 1, the largest number, infinity, NaNs
 pub whole-numbers :
     wholes minusInfinity minusInfinity minusInfinity
     && wholes minusLargest minusLargest minusLargest
@@ -214,7 +279,9 @@ pub whole-numbers :
     && wholes 0x4330000000000001 0x4330000000000001 0x4330000000000001
     && wholes largest largest largest
     && wholes infinity infinity infinity
-    && wholes otherNan nanResult nanResult
+    && wholes nanA quietA quietA
+    && wholes nanB quietB quietB
+    && wholes nanC quietC quietC
     ≡ true
 unfolding roundBits floorBits
 whole-numbers = refl
@@ -234,13 +301,13 @@ whole-in-each = refl
 
 -- ---- scaling
 
--- -infinity, -0, 0, infinity and a NaN by 2^n
+-- -infinity, -0, 0, infinity and NaNs by 2^n
 abbrev scaledSpecial : ℤ → List ℕ
-scaledSpecial n = map (λ x. scaleBits x n) (minusInfinity ∷ minusZero ∷ 0 ∷ infinity ∷ otherNan ∷ [])
+scaledSpecial n = map (λ x. scaleBits x n) (minusInfinity ∷ minusZero ∷ 0 ∷ infinity ∷ nanA ∷ nanB ∷ nanC ∷ [])
 
 pub scaled-special :
     scaledSpecial (negsuc 0) ∷ scaledSpecial (pos 0) ∷ scaledSpecial (pos 1) ∷ []
-    ≡ replicate 3 (minusInfinity ∷ minusZero ∷ 0 ∷ infinity ∷ nanResult ∷ [])
+    ≡ replicate 3 (minusInfinity ∷ minusZero ∷ 0 ∷ infinity ∷ quietA ∷ quietB ∷ quietC ∷ [])
 unfolding scaleBits
 scaled-special = refl
 
@@ -248,14 +315,16 @@ scaled-special = refl
 abbrev scaled : ℕ → ℤ → ℕ → Bool
 scaled x n result = eqb (scaleBits x n) result
 
--- the ends of n: -infinity, infinity and a NaN by 2^2147483647 and by 2^-2147483648
+-- the ends of n: -infinity, infinity and NaNs by 2^2147483647 and by 2^-2147483648
 pub scaled-far :
     scaled minusInfinity (pos 2147483647) minusInfinity
     && scaled infinity (pos 2147483647) infinity
-    && scaled otherNan (pos 2147483647) nanResult
+    && scaled nanA (pos 2147483647) quietA
+    && scaled nanB (pos 2147483647) quietB
     && scaled minusInfinity (negsuc 2147483647) minusInfinity
     && scaled infinity (negsuc 2147483647) infinity
-    && scaled otherNan (negsuc 2147483647) nanResult
+    && scaled nanA (negsuc 2147483647) quietA
+    && scaled nanB (negsuc 2147483647) quietB
     ≡ true
 unfolding scaleBits
 scaled-far = refl

@@ -1,1 +1,2 @@
+pub mod Nans
 mod Examples

@@ -1,11 +1,12 @@
 -- The operations of IEEE 754-2019 that the language lacks: fused multiply-add (5.4.1), rounding to a whole number (5.3.1, 5.9) and
 -- scaling by a power of two (5.3.3), over the floats of lib.Ieee. Each works out its result exactly and rounds once, in a direction.
 -- Definitions only.
-use Prim.Native.Nat.{ℕ, _+_, _-_, _*_}
+use Prim.Native.Nat.{ℕ, _+_, _-_, _*_, _/_, _%_, _^_}
 use mathlib.Core.Bool.{Bool, true, false, cond, Bool·beq}
+use mathlib.Core.List.{List, [], _∷_}
 use lib.Dec.{ltb, eqb}
 use lib.IntN.{ℤ, pos}
-use lib.Ieee.{Float, nan, inf, fin, binary64, unlike, up, down, toBits, ofBits}
+use lib.Ieee.{Float, nan, inf, fin, binary64, unlike, up, down, toBits, ofBits, nanBits}
 use Rattle.rounding.specs.declared.Direction.{Direction}
 use Rattle.rounding.specs.declared.Direction.the-variants.{Nearest, TowardZero, Up, Down}
 use Rattle.rounding.specs.Rounding.{whole, roundTo}
@@ -74,20 +75,32 @@ scaleB d nan n = nan
 scaleB d (inf s) n = inf s
 scaleB d (fin s m e) n = roundTo d binary64 s (m * up e * up n) (down e * down n)
 
--- ---- on bit patterns, where each NaN result is 0x7ff8000000000000
+-- ---- on bit patterns
+-- The floats have one NaN, whose pattern is 0x7ff8000000000000: an invalid operation gives it. The patterns have many, each with a sign and
+-- a payload, the fraction's bits below the top one (6.2.1): a NaN operand is returned with both (document 02, A.7).
+
+-- a NaN with its sign and payload and with its top fraction bit set
+unfoldable pub quiet : ℕ → ℕ
+quiet x = x / 2 ^ 52 * 2 ^ 52 + 2 ^ 51 + x % 2 ^ 51
+
+-- the first NaN among the operands, in their order, or else the result r
+unfoldable pub firstNan : List ℕ → ℕ → ℕ
+unfolding nanBits quiet
+firstNan [] r = r
+firstNan (x ∷ xs) r = cond (nanBits binary64 x) (quiet x) (firstNan xs r)
 
 unfoldable pub fusedBits : Direction → ℕ → ℕ → ℕ → ℕ
-unfolding toBits ofBits fusedMultiplyAdd
-fusedBits d a b c = toBits binary64 (fusedMultiplyAdd d (ofBits binary64 a) (ofBits binary64 b) (ofBits binary64 c))
+unfolding toBits ofBits fusedMultiplyAdd firstNan
+fusedBits d a b c = firstNan (a ∷ b ∷ c ∷ []) (toBits binary64 (fusedMultiplyAdd d (ofBits binary64 a) (ofBits binary64 b) (ofBits binary64 c)))
 
 unfoldable pub roundBits : ℕ → ℕ
-unfolding toBits ofBits roundToIntegral
-roundBits x = toBits binary64 (roundToIntegral Nearest (ofBits binary64 x))
+unfolding toBits ofBits roundToIntegral firstNan
+roundBits x = firstNan (x ∷ []) (toBits binary64 (roundToIntegral Nearest (ofBits binary64 x)))
 
 unfoldable pub floorBits : ℕ → ℕ
-unfolding toBits ofBits roundToIntegral
-floorBits x = toBits binary64 (roundToIntegral Down (ofBits binary64 x))
+unfolding toBits ofBits roundToIntegral firstNan
+floorBits x = firstNan (x ∷ []) (toBits binary64 (roundToIntegral Down (ofBits binary64 x)))
 
 unfoldable pub scaleBits : ℕ → ℤ → ℕ
-unfolding toBits ofBits scaleB
-scaleBits x n = toBits binary64 (scaleB Nearest (ofBits binary64 x) n)
+unfolding toBits ofBits scaleB firstNan
+scaleBits x n = firstNan (x ∷ []) (toBits binary64 (scaleB Nearest (ofBits binary64 x) n))

@@ -5,6 +5,7 @@ use Prim.Native.Nat.{ℕ, _+_, _-_, _*_, _/_, _%_, _^_, _≤_, _<_}
 use native.Mathlib.Nat.{le-trans, le-of-eq, lt-of-lt-of-le, eq-or-lt-of-le, mul-one, mul-assoc, add-zero, zero-add, zero-mul, mul-pos, mul-lt-mul-of-pos-right}
 use native.Mathlib.Omega.{arith}
 use mathlib.Core.Bool.{Bool}
+use mathlib.Core.List.{[], _∷_}
 use lib.Dec.{lit≤, lit<}
 use lib.Pow.{pow-add, pow-pos, pow-mono}
 use lib.Ieee.{Float, nan, inf, fin, binary64, up, down, ofBits, toBits}
@@ -15,9 +16,9 @@ use Rattle.rounding.specs.declared.Direction.the-variants.{Nearest, Down}
 use Rattle.rounding.specs.Rounding.{whole, roundTo}
 use Rattle.rounding.specs.Machine.{Stands}
 use Rattle.rounding.proofs.Place.{exact, under, Sits, whole-at, whole-exact, whole-same}
-use Rattle.ieee754.specs.Operations.{roundToIntegral, roundBits, floorBits}
+use Rattle.ieee754.specs.Operations.{roundToIntegral, firstNan, roundBits, floorBits}
 use Rattle.operands.specs.Machine.{signOf, magnitude}
-use Rattle.operands.proofs.Reading.{Units, Finite, units, finite, exact-bits, nan-bits, inf-back, read-nan, read-inf, stands-just}
+use Rattle.operands.proofs.Reading.{Units, Finite, units, finite, exact-bits, inf-back, read-inf, stands-just}
 
 -- a whole number, as `round_wide` takes it
 pub stands-whole : (w : ℕ) → Stands 2273 w 1 w 2273
@@ -81,10 +82,6 @@ whole-answer d a q k w r s u l e f =
     f ∙ ap₂ (λ (t : Bool) (x : ℕ). toBits binary64 (roundTo d binary64 t x 1)) l (e ∙ ap (λ (t : Bool). whole d t (q * 2 ^ k) (2 ^ 1074)) l)
     ∙ whole-of d (signOf a) (q * 2 ^ k) (ofBits binary64 a) (u .value)
 
-pub whole-nan : (d : Direction) (a : ℕ) → 0x7ff0000000000000 < magnitude a → 0x7ff8000000000000 ≡ toBits binary64 (roundToIntegral d (ofBits binary64 a))
-unfolding roundToIntegral
-whole-nan d a h = nan-bits ∙ ap (λ (v : Float). toBits binary64 (roundToIntegral d v)) (sym (read-nan a h))
-
 -- a number that is whole already
 whole-itself : (d : Direction) (a q k n : ℕ) → a < 2 ^ 64 → magnitude a < 0x7ff0000000000000 → Units a q k → q * 2 ^ k ≡ n * 2 ^ 1074 → a ≡ toBits binary64 (roundToIntegral d (ofBits binary64 a))
 whole-itself d a q k n A F u e =
@@ -118,10 +115,10 @@ whole-zero d a A z = go (finite a (none (magnitude a) z))
     go : Finite a → a ≡ toBits binary64 (roundToIntegral d (ofBits binary64 a))
     go (units q k u) = whole-itself d a q k 0 A (none (magnitude a) z) u (ap (λ (x : ℕ). x * 2 ^ k) (nothing (magnitude a) q k (u .pattern) z) ∙ zero-mul (2 ^ k) ∙ sym (zero-mul (2 ^ 1074)))
 
-pub round-is : (a : ℕ) → toBits binary64 (roundToIntegral Nearest (ofBits binary64 a)) ≡ roundBits a
+pub round-is : (a : ℕ) → firstNan (a ∷ []) (toBits binary64 (roundToIntegral Nearest (ofBits binary64 a))) ≡ roundBits a
 unfolding roundBits
 round-is a = refl
 
-pub floor-is : (a : ℕ) → toBits binary64 (roundToIntegral Down (ofBits binary64 a)) ≡ floorBits a
+pub floor-is : (a : ℕ) → firstNan (a ∷ []) (toBits binary64 (roundToIntegral Down (ofBits binary64 a))) ≡ floorBits a
 unfolding floorBits
 floor-is a = refl

@@ -1,16 +1,17 @@
 // Rounding to a whole number, and floor, on 64-bit patterns. Each public call is total, and its contract is an equation
-// with `roundBits` or `floorBits` of ieee754's specs/Operations.antt. A NaN result is always 0x7ff8000000000000.
+// with `roundBits` or `floorBits` of ieee754's specs/Operations.antt. A NaN is returned, quiet.
 //
 // The significand is shifted down to whole units in the direction, and what is left is written as a float, which is
 // exact.
 ghost use mathlib.Core.Path.{_≡_};
 ghost use mathlib.Core.Logic.{_⊎_};
+ghost use mathlib.Core.List.{[], _∷_};
 ghost use Prim.Native.Nat.{ℕ, _+_, _*_, _^_, _≤_, _<_};
 ghost use lib.Ieee.{toBits, ofBits, binary64};
 ghost use Rattle.rounding.specs.Rounding.{whole, roundTo};
-ghost use Rattle.ieee754.specs.Operations.{roundToIntegral, roundBits, floorBits};
-use operands::NAN;
+ghost use Rattle.ieee754.specs.Operations.{roundToIntegral, firstNan, roundBits, floorBits};
 use operands::negative;
+use operands::quiet;
 use rounding::Direction;
 use rounding::INFINITY;
 use rounding::LEADING;
@@ -50,11 +51,11 @@ fn whole_size(dir: Direction, neg: bool, x: u64) -> u64
 
 // x as a whole number, in the direction.
 fn integral_in(dir: Direction, x: u64) -> u64
-    ensures { λ r. ⌜ r ≡ toBits binary64 (roundToIntegral dir (ofBits binary64 x)) ⌝ }
+    ensures { λ r. ⌜ r ≡ firstNan (x ∷ []) (toBits binary64 (roundToIntegral dir (ofBits binary64 x))) ⌝ }
 {
     let m = x % SIGN;
     if INFINITY < m {
-        return NAN;
+        return quiet(x);
     }
     if ALL_WHOLE <= m {
         return x;

@@ -2,13 +2,15 @@
 use mathlib.Core.Path.{_≡_, refl, sym, ap, ap₂, _∙_, subst}
 use Prim.Native.Nat.{ℕ, _*_, _%_, _≤_, _<_}
 use mathlib.Core.Bool.{Bool, true, false, not, _&&_, _||_, Bool·beq, true≢false}
+use mathlib.Core.List.{[], _∷_}
 use lib.Dec.{T, eqb}
-use borrow.Author.Tests.{lt-ltb, le-ltb, eq-eqb}
+use borrow.Author.Tests.{eq-eqb}
 use lib.Ieee.{Float, nan, inf, fin, binary64, up, down, ne, isNan, fits, div, nanBits, ofBits, toBits}
-use lib.Ieee.Bits.{ofBits-toBits, nanBits-is, nanBits-above}
+use lib.Ieee.Bits.{ofBits-toBits}
 use Rattle.rounding.specs.declared.Direction.{Direction}
 use Rattle.rounding.specs.declared.Direction.the-variants.{Nearest, Down}
-use Rattle.ieee754.specs.Operations.{fusedMultiplyAdd, fusedBits, roundToIntegral, roundBits, floorBits}
+use Rattle.ieee754.specs.Operations.{fusedMultiplyAdd, roundToIntegral, firstNan, fusedBits, roundBits, floorBits}
+use Rattle.ieee754.proofs.Nans.{nan-pattern, number-pattern, nan-read, read-first, fused-nan-x, fused-nan-y, fused-nan-z}
 use Rattle.math.proofs.Fits.{fused-fits, integral-fits}
 
 -- ---- x != x says that x is a NaN
@@ -38,40 +40,42 @@ a-nan (fin s m x) e = absurd (true≢false (sym e ∙ number (fin s m x) tt))
 
 -- ---- the patterns of NaNs
 
-is-nan : (x : Float) → isNan x ≡ true → x ≡ nan
-unfolding isNan
-is-nan nan e = refl
-is-nan (inf s) e = absurd (true≢false (sym e))
-is-nan (fin s m x) e = absurd (true≢false (sym e))
-
 pub pattern-nan : (b : ℕ) → 0x7ff0000000000000 < b % 0x8000000000000000 → div binary64 (ofBits binary64 0) (ofBits binary64 0) ≡ ofBits binary64 b
 unfolding div ofBits
-pattern-nan b h = sym (is-nan (ofBits binary64 b) (sym (nanBits-is binary64 b) ∙ nanBits-above binary64 b ∙ lt-ltb 0x7ff0000000000000 (b % 0x8000000000000000) h))
+pattern-nan b h = sym (nan-read b (nan-pattern b h))
 
 pub pattern-number : (b : ℕ) → b % 0x8000000000000000 ≤ 0x7ff0000000000000 → T (not (nanBits binary64 b))
-pattern-number b h = subst (λ (t : Bool). T (not t)) (sym (nanBits-above binary64 b ∙ le-ltb 0x7ff0000000000000 (b % 0x8000000000000000) h)) tt
+pattern-number b h = subst (λ (t : Bool). T (not t)) (sym (number-pattern b h)) tt
 
--- ---- operations
+-- ---- a float from its pattern
 
 pub back : (x : Float) (a : ℕ) → fits binary64 x ≡ true → a ≡ toBits binary64 x → ofBits binary64 a ≡ x
 back x a f e = ap (ofBits binary64) e ∙ ofBits-toBits binary64 x (subst (λ (t : Bool). T t) (sym f) tt)
 
--- a result y that fits, as a pattern w and as the float r
-result : (y r : Float) (w : ℕ) → T (fits binary64 y) → w ≡ toBits binary64 y → r ≡ ofBits binary64 w → r ≡ y
-result y r w f e g = g ∙ ap (ofBits binary64) e ∙ ofBits-toBits binary64 y f
+-- ---- operations: a pattern that an operation gives is read as what the operation on floats gives, a NaN too
 
 pub fused-read : (d : Direction) (a b c w : ℕ) → w ≡ fusedBits d a b c → ofBits binary64 w ≡ fusedMultiplyAdd d (ofBits binary64 a) (ofBits binary64 b) (ofBits binary64 c)
-unfolding fusedBits
+unfolding firstNan fusedBits
 fused-read d a b c w e =
     let u = ofBits binary64 a in
     let v = ofBits binary64 b in
     let t = ofBits binary64 c in
-    result (fusedMultiplyAdd d u v t) (ofBits binary64 w) w (fused-fits d u v t) e refl
+    let f = fusedMultiplyAdd d u v t in
+    let r = toBits binary64 f in
+    ap (ofBits binary64) e
+    ∙ read-first a (b ∷ c ∷ []) r f (fused-nan-x d u v t) (read-first b (c ∷ []) r f (fused-nan-y d u v t) (read-first c [] r f (fused-nan-z d u v t) (ofBits-toBits binary64 f (fused-fits d u v t))))
+
+whole-read : (d : Direction) (a : ℕ) → ofBits binary64 (firstNan (a ∷ []) (toBits binary64 (roundToIntegral d (ofBits binary64 a)))) ≡ roundToIntegral d (ofBits binary64 a)
+unfolding firstNan roundToIntegral
+whole-read d a =
+    let u = ofBits binary64 a in
+    let f = roundToIntegral d u in
+    read-first a [] (toBits binary64 f) f (λ n. ap (roundToIntegral d) (sym n)) (ofBits-toBits binary64 f (integral-fits d u))
 
 pub round-floats : (x r : Float) (a w : ℕ) → fits binary64 x ≡ true → a ≡ toBits binary64 x → w ≡ roundBits a → r ≡ ofBits binary64 w → r ≡ roundToIntegral Nearest x
 unfolding roundBits
-round-floats x r a w f ea ew er = let u = ofBits binary64 a in result (roundToIntegral Nearest u) r w (integral-fits Nearest u) ew er ∙ ap (roundToIntegral Nearest) (back x a f ea)
+round-floats x r a w f ea ew er = er ∙ ap (ofBits binary64) ew ∙ whole-read Nearest a ∙ ap (roundToIntegral Nearest) (back x a f ea)
 
 pub floor-floats : (x r : Float) (a w : ℕ) → fits binary64 x ≡ true → a ≡ toBits binary64 x → w ≡ floorBits a → r ≡ ofBits binary64 w → r ≡ roundToIntegral Down x
 unfolding floorBits
-floor-floats x r a w f ea ew er = let u = ofBits binary64 a in result (roundToIntegral Down u) r w (integral-fits Down u) ew er ∙ ap (roundToIntegral Down) (back x a f ea)
+floor-floats x r a w f ea ew er = er ∙ ap (ofBits binary64) ew ∙ whole-read Down a ∙ ap (roundToIntegral Down) (back x a f ea)

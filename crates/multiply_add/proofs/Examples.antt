@@ -15,7 +15,7 @@ each a b c = map (λ direction. fusedReply direction a b c) (0 ∷ 1 ∷ 2 ∷ 3
 abbrev replies : ℕ → ℕ → ℕ → ℕ → List Reply
 replies nearest towardZero up down = Bits nearest ∷ Bits towardZero ∷ Bits up ∷ Bits down ∷ Refused 11 ∷ Refused 11 ∷ []
 
--- 1 + 2^-1074; -1 - 2^-1074; 1 * 1 - 1; the largest number doubled, and negative; a NaN
+-- 1 + 2^-1074; -1 - 2^-1074; 1 * 1 - 1; the largest number doubled, and negative; 0 * infinity plus a number and plus a NaN
 pub in-each :
     (each 0x3ff0000000000000 0x3ff0000000000000 1 ≡ replies 0x3ff0000000000000 0x3ff0000000000000 0x3ff0000000000001 0x3ff0000000000000)
     × (each 0xbff0000000000000 0x3ff0000000000000 0x8000000000000001 ≡ replies 0xbff0000000000000 0xbff0000000000000 0xbff0000000000000 0xbff0000000000001)
@@ -23,5 +23,6 @@ pub in-each :
     × (each 0x7fefffffffffffff 0x4000000000000000 0 ≡ replies 0x7ff0000000000000 0x7fefffffffffffff 0x7ff0000000000000 0x7fefffffffffffff)
     × (each 0xffefffffffffffff 0x4000000000000000 0 ≡ replies 0xfff0000000000000 0xffefffffffffffff 0xffefffffffffffff 0xfff0000000000000)
     × (each 0 0x7ff0000000000000 1 ≡ replies 0x7ff8000000000000 0x7ff8000000000000 0x7ff8000000000000 0x7ff8000000000000)
+    × (each 0 0x7ff0000000000000 0xfff0000000000007 ≡ replies 0xfff8000000000007 0xfff8000000000007 0xfff8000000000007 0xfff8000000000007)
 unfolding fusedBits
-in-each = (refl, refl, refl, refl, refl, refl)
+in-each = (refl, refl, refl, refl, refl, refl, refl)

@@ -14,12 +14,12 @@ use lib.Ieee.Fits.{down-pos}
 use Rattle.rounding.specs.declared.Direction.{Direction}
 use Rattle.rounding.specs.Rounding.{roundTo}
 use Rattle.operands.specs.declared.Parts.{Parts}
-use Rattle.ieee754.specs.Operations.{product, plus, sumTo, fusedBits}
-use Rattle.operands.specs.Machine.{Normal, Ready, productSize, addendSize}
+use Rattle.ieee754.specs.Operations.{product, plus, sumTo, fusedMultiplyAdd}
+use Rattle.operands.specs.Machine.{Normal, Ready, productSize, addendSize, fusedFloats}
 use Rattle.multiply_add.proofs.Sums.{sum-like, sum-more, differ}
 
-pub fused-is : (d : Direction) (a b c : ℕ) → fusedBits d a b c ≡ toBits binary64 (plus d (product (ofBits binary64 a) (ofBits binary64 b)) (ofBits binary64 c))
-unfolding fusedBits
+pub fused-is : (d : Direction) (a b c : ℕ) → fusedFloats d a b c ≡ toBits binary64 (plus d (product (ofBits binary64 a) (ofBits binary64 b)) (ofBits binary64 c))
+unfolding fusedMultiplyAdd
 fused-is d a b c = refl
 
 -- ---- finite numbers, none of which is zero

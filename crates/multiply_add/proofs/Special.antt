@@ -1,4 +1,4 @@
--- Products and sums with a zero, an infinity or a NaN. Assumes nothing.
+-- Products and sums with a zero or an infinity. Assumes nothing.
 use mathlib.Core.Path.{_≡_, refl, sym, ap, ap₂, _∙_, subst}
 use mathlib.Core.Logic.{_⊎_, inl, inr}
 use Prim.Native.Nat.{ℕ, _+_, _-_, _*_, _^_, _≤_, _<_}
@@ -14,10 +14,10 @@ use lib.Ieee.Fits.{down-pos}
 use Rattle.rounding.specs.declared.Direction.{Direction}
 use Rattle.rounding.specs.Rounding.{roundTo}
 use Rattle.rounding.specs.Machine.{signBit}
-use Rattle.ieee754.specs.Operations.{Product, invalid, infinite, exactly, product, plus, sumTo, zeroSign, fusedBits}
-use Rattle.operands.specs.Machine.{signOf, magnitude}
+use Rattle.ieee754.specs.Operations.{Product, invalid, infinite, exactly, product, plus, sumTo, zeroSign}
+use Rattle.operands.specs.Machine.{signOf, magnitude, fusedFloats}
 use Rattle.multiply_add.proofs.Sums.{sum-like, sum-less, sum-same}
-use Rattle.operands.proofs.Reading.{Units, Finite, units, finite, units-pos, exact-bits, nan-bits, inf-bits, zero-bits, inf-back, read-nan, read-inf, read-zero}
+use Rattle.operands.proofs.Reading.{Units, Finite, units, finite, units-pos, exact-bits, nan-bits, inf-bits, zero-bits, inf-back, read-inf, read-zero}
 use Rattle.multiply_add.proofs.Products.{fused-is}
 
 -- ---- a zero product and a finite addend
@@ -104,46 +104,26 @@ finite-inf d (fin i m e) nan s t u a b k l x y = absurd y
 finite-inf d (fin i m e) (inf j) s t u a b k l x y = absurd y
 finite-inf d (fin i m e) (fin j n g) s t u a b k l x y = refl
 
--- a NaN
-product-nan : (X : Float) → product X nan ≡ invalid
-product-nan nan = refl
-product-nan (inf s) = refl
-product-nan (fin s m e) = refl
-
+-- an invalid product
 plus-invalid : (d : Direction) (Z : Float) → nan ≡ plus d invalid Z
 unfolding plus
 plus-invalid d Z = refl
 
-plus-nan : (d : Direction) (P : Product) → nan ≡ plus d P nan
-unfolding plus
-plus-nan d invalid = refl
-plus-nan d (infinite s) = refl
-plus-nan d (exactly s a c) = refl
-
-invalid-bits : (d : Direction) (a b c : ℕ) → product (ofBits binary64 a) (ofBits binary64 b) ≡ invalid → 0x7ff8000000000000 ≡ fusedBits d a b c
+invalid-bits : (d : Direction) (a b c : ℕ) → product (ofBits binary64 a) (ofBits binary64 b) ≡ invalid → 0x7ff8000000000000 ≡ fusedFloats d a b c
 invalid-bits d a b c e = nan-bits ∙ ap (toBits binary64) (plus-invalid d (ofBits binary64 c) ∙ ap (λ (p : Product). plus d p (ofBits binary64 c)) (sym e)) ∙ sym (fused-is d a b c)
 
-pub nan-a : (d : Direction) (a b c : ℕ) → 0x7ff0000000000000 < magnitude a → 0x7ff8000000000000 ≡ fusedBits d a b c
-nan-a d a b c h = invalid-bits d a b c (ap (λ (v : Float). product v (ofBits binary64 b)) (read-nan a h))
-
-pub nan-b : (d : Direction) (a b c : ℕ) → 0x7ff0000000000000 < magnitude b → 0x7ff8000000000000 ≡ fusedBits d a b c
-nan-b d a b c h = invalid-bits d a b c (ap (λ (v : Float). product (ofBits binary64 a) v) (read-nan b h) ∙ product-nan (ofBits binary64 a))
-
-pub nan-c : (d : Direction) (a b c : ℕ) → 0x7ff0000000000000 < magnitude c → 0x7ff8000000000000 ≡ fusedBits d a b c
-nan-c d a b c h = nan-bits ∙ ap (toBits binary64) (plus-nan d (product (ofBits binary64 a) (ofBits binary64 b)) ∙ ap (plus d (product (ofBits binary64 a) (ofBits binary64 b))) (sym (read-nan c h))) ∙ sym (fused-is d a b c)
-
 -- zero times infinity
-pub zero-inf : (d : Direction) (a b c : ℕ) → magnitude a ≡ 0 → magnitude b ≡ 0x7ff0000000000000 → 0x7ff8000000000000 ≡ fusedBits d a b c
+pub zero-inf : (d : Direction) (a b c : ℕ) → magnitude a ≡ 0 → magnitude b ≡ 0x7ff0000000000000 → 0x7ff8000000000000 ≡ fusedFloats d a b c
 zero-inf d a b c h k = invalid-bits d a b c (ap₂ product (read-zero a h) (read-inf b k))
 
-pub inf-zero : (d : Direction) (a b c : ℕ) → magnitude a ≡ 0x7ff0000000000000 → magnitude b ≡ 0 → 0x7ff8000000000000 ≡ fusedBits d a b c
+pub inf-zero : (d : Direction) (a b c : ℕ) → magnitude a ≡ 0x7ff0000000000000 → magnitude b ≡ 0 → 0x7ff8000000000000 ≡ fusedFloats d a b c
 inf-zero d a b c h k = invalid-bits d a b c (ap₂ product (read-inf a h) (read-zero b k))
 
 -- a finite product and an infinite addend
-pub inf-c : (d : Direction) (a b c : ℕ) → c < 2 ^ 64 → magnitude a < 0x7ff0000000000000 → magnitude b < 0x7ff0000000000000 → magnitude c ≡ 0x7ff0000000000000 → c ≡ fusedBits d a b c
+pub inf-c : (d : Direction) (a b c : ℕ) → c < 2 ^ 64 → magnitude a < 0x7ff0000000000000 → magnitude b < 0x7ff0000000000000 → magnitude c ≡ 0x7ff0000000000000 → c ≡ fusedFloats d a b c
 inf-c d a b c C h k l = go (finite a h) (finite b k)
   where
-    go : Finite a → Finite b → c ≡ fusedBits d a b c
+    go : Finite a → Finite b → c ≡ fusedFloats d a b c
     go (units q i u) (units p j w) =
         inf-back c C l
         ∙ ap (toBits binary64) (finite-inf d (ofBits binary64 a) (ofBits binary64 b) (signOf a) (signOf b) (signOf c) (q * 2 ^ i) (p * 2 ^ j) (2 ^ 1074) (2 ^ 1074) (u .value) (w .value) ∙ ap (plus d (product (ofBits binary64 a) (ofBits binary64 b))) (sym (read-inf c l)))
@@ -181,9 +161,6 @@ infinite-product a b h k l n m = go (eq-or-lt-of-le h) (eq-or-lt-of-le k)
     go (inr g) w = left (finite a g) (l g)
 
 -- an infinite product, plus c
-pub infinite-nan : (d : Direction) (s : Bool) (c : ℕ) → 0x7ff0000000000000 < magnitude c → 0x7ff8000000000000 ≡ toBits binary64 (plus d (infinite s) (ofBits binary64 c))
-infinite-nan d s c h = nan-bits ∙ ap (toBits binary64) (plus-nan d (infinite s) ∙ ap (plus d (infinite s)) (sym (read-nan c h)))
-
 pub infinite-like : (d : Direction) (s : Bool) (c : ℕ) → c < 2 ^ 64 → magnitude c ≡ 0x7ff0000000000000 → Bool·beq s (signOf c) ≡ true → s ≡ signOf c → c ≡ toBits binary64 (plus d (infinite s) (ofBits binary64 c))
 unfolding plus
 infinite-like d s c C h e l =

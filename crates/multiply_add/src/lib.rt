@@ -1,5 +1,5 @@
 // Fused multiply-add on 64-bit patterns. The public call `fused` is total, and its contract is an equation with `fusedReply` of
-// specs/Fused.antt, over `fusedBits` of ieee754's specs/Operations.antt. A NaN result is always 0x7ff8000000000000.
+// specs/Fused.antt, over `fusedBits` of ieee754's specs/Operations.antt. `fused_special` returns a NaN operand; past it there is none.
 //
 // The product of two significands lies in two words, and so does the addend, brought to the same number of digits. The
 // one of the smaller exponent is shifted down to the other's, with a sticky bit; then the sum, or the difference by
@@ -13,12 +13,13 @@ ghost use Rattle.rounding.specs.declared.Direction.the-variants.{Nearest};
 ghost use Rattle.rounding.specs.Rounding.{roundTo};
 ghost use Rattle.ieee754.specs.Operations.{zeroSign, sumTo, plus, exactly, infinite, fusedBits};
 ghost use Rattle.multiply_add.specs.Fused.{fusedReply};
-ghost use Rattle.operands.specs.Machine.{magnitude, Regular, Normal, Ready, productSize, addendSize, Addends, RoundsSum};
+ghost use Rattle.operands.specs.Machine.{magnitude, Regular, Normal, Ready, productSize, addendSize, Addends, RoundsSum, fusedFloats};
 use operands::NAN;
 use operands::Parts;
 use operands::is_regular;
 use operands::negative;
 use operands::pick_sign;
+use operands::quiet;
 use operands::read;
 use operands::unlike_signs;
 use reply::Reply;
@@ -134,7 +135,7 @@ fn fused_parts(dir: Direction, s: bool, a: Parts, b: Parts, t: bool, c: Parts) -
 
 fn fused_nonzero(dir: Direction, a: u64, b: u64, c: u64) -> u64
     requires { ⌜ Regular a × Regular b × Regular c ⌝ }
-    ensures { λ r. ⌜ r ≡ fusedBits dir a b c ⌝ }
+    ensures { λ r. ⌜ r ≡ fusedFloats dir a b c ⌝ }
 {
     let s = unlike_signs(a, b);
     fused_parts(dir, s, read(a), read(b), negative(c), read(c))
@@ -153,7 +154,7 @@ fn product_parts(dir: Direction, s: bool, a: Parts, b: Parts) -> u64
 // a * b + c for finite a and b that are not zero, and a c that is.
 fn fused_zero_addend(dir: Direction, a: u64, b: u64, c: u64) -> u64
     requires { ⌜ Regular a × Regular b × (magnitude c ≡ 0) ⌝ }
-    ensures { λ r. ⌜ r ≡ fusedBits dir a b c ⌝ }
+    ensures { λ r. ⌜ r ≡ fusedFloats dir a b c ⌝ }
 {
     let s = unlike_signs(a, b);
     product_parts(dir, s, read(a), read(b))
@@ -171,17 +172,14 @@ fn zero_product(dir: Direction, s: bool, c: u64) -> u64
     if z == 0 { sign_bit(zero_sign(dir)) } else { c }
 }
 
-// a * b + c for finite a and b, where one of the three is zero or c is not finite.
+// a * b + c for finite a and b, where one of the three is zero or c is infinite.
 fn fused_finite(dir: Direction, a: u64, b: u64, c: u64) -> u64
-    requires { ⌜ (magnitude a < 0x7ff0000000000000) × (magnitude b < 0x7ff0000000000000) × (Regular a → Regular b → Regular c → ⊥) ⌝ }
-    ensures { λ r. ⌜ r ≡ fusedBits dir a b c ⌝ }
+    requires { ⌜ (magnitude a < 0x7ff0000000000000) × (magnitude b < 0x7ff0000000000000) × (magnitude c ≤ 0x7ff0000000000000) × (Regular a → Regular b → Regular c → ⊥) ⌝ }
+    ensures { λ r. ⌜ r ≡ fusedFloats dir a b c ⌝ }
 {
     let x = a % SIGN;
     let y = b % SIGN;
     let z = c % SIGN;
-    if INFINITY < z {
-        return NAN;
-    }
     if z == INFINITY {
         return c;
     }
@@ -196,12 +194,10 @@ fn fused_finite(dir: Direction, a: u64, b: u64, c: u64) -> u64
 
 // An infinite product with the sign s, plus c.
 fn infinite_product(s: bool, c: u64) -> u64
+    requires { ⌜ magnitude c ≤ 0x7ff0000000000000 ⌝ }
     ensures { λ r. ⌜ ((d : Direction) → r ≡ toBits binary64 (plus d (infinite s) (ofBits binary64 c))) ⌝ }
 {
     let z = c % SIGN;
-    if INFINITY < z {
-        return NAN;
-    }
     if z == INFINITY {
         if s == negative(c) {
             return c;
@@ -211,10 +207,10 @@ fn infinite_product(s: bool, c: u64) -> u64
     sign_bit(s) + INFINITY
 }
 
-// a * b + c for a and b that are no NaNs and of which one is infinite.
+// a * b + c where a or b is infinite.
 fn fused_infinite(a: u64, b: u64, c: u64) -> u64
-    requires { ⌜ (magnitude a ≤ 0x7ff0000000000000) × (magnitude b ≤ 0x7ff0000000000000) × (magnitude a < 0x7ff0000000000000 → magnitude b ≡ 0x7ff0000000000000) ⌝ }
-    ensures { λ r. ⌜ ((d : Direction) → r ≡ fusedBits d a b c) ⌝ }
+    requires { ⌜ (magnitude a ≤ 0x7ff0000000000000) × (magnitude b ≤ 0x7ff0000000000000) × (magnitude c ≤ 0x7ff0000000000000) × (magnitude a < 0x7ff0000000000000 → magnitude b ≡ 0x7ff0000000000000) ⌝ }
+    ensures { λ r. ⌜ ((d : Direction) → r ≡ fusedFloats d a b c) ⌝ }
 {
     let x = a % SIGN;
     let y = b % SIGN;
@@ -234,11 +230,15 @@ fn fused_special(dir: Direction, a: u64, b: u64, c: u64) -> u64
 {
     let x = a % SIGN;
     let y = b % SIGN;
+    let z = c % SIGN;
     if INFINITY < x {
-        return NAN;
+        return quiet(a);
     }
     if INFINITY < y {
-        return NAN;
+        return quiet(b);
+    }
+    if INFINITY < z {
+        return quiet(c);
     }
     if x == INFINITY {
         return fused_infinite(a, b, c);

@@ -18,6 +18,7 @@ use Rattle.rounding.specs.Rounding.{roundTo}
 use Rattle.rounding.specs.Machine.{signBit, overflowBits, packed, Stands}
 use Rattle.rounding.proofs.Place.{exact, Sits, wholeAt, whole-exact}
 use Rattle.rounding.proofs.Rounding.{bits-at}
+use Rattle.ieee754.proofs.Nans.{nan-pattern, nan-read}
 use Rattle.operands.specs.Machine.{signOf, magnitude, Normal, Reads}
 use Rattle.operands.specs.declared.Parts.{Parts}
 
@@ -35,10 +36,7 @@ highest : (b : ℕ) → magnitude b / 0x10000000000000 ≡ 2047 → ofBits binar
 highest b e = ofBits-is b ∙ ap (λ (y : ℕ). ofFields binary64 (signOf b) y (b % 0x10000000000000)) e ∙ top-field (signOf b) (b % 0x10000000000000)
 
 pub read-nan : (b : ℕ) → 0x7ff0000000000000 < magnitude b → ofBits binary64 b ≡ nan
-read-nan b h = highest b (omega arith) ∙ ap (λ (c : Bool). cond c (inf (signOf b)) nan) (ne-eqb (b % 0x10000000000000) 0 (some b h))
-  where
-    some : (b : ℕ) → 0x7ff0000000000000 < b % 0x8000000000000000 → b % 0x10000000000000 ≡ 0 → ⊥
-    some b h e = omega arith
+read-nan b h = nan-read b (nan-pattern b h)
 
 pub read-inf : (b : ℕ) → magnitude b ≡ 0x7ff0000000000000 → ofBits binary64 b ≡ inf (signOf b)
 read-inf b h = highest b (omega arith) ∙ ap (λ (c : Bool). cond c (inf (signOf b)) nan) (eq-eqb (b % 0x10000000000000) 0 (omega arith))

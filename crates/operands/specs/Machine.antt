@@ -6,11 +6,11 @@ use Prim.Native.Nat.{ℕ, _+_, _-_, _*_, _/_, _%_, _^_, _≤_, _<_}
 use mathlib.Core.Bool.{Bool, cond}
 use lib.IntN.{ℤ, pos, negsuc}
 use lib.Dec.{leb, ltb}
-use lib.Ieee.{ofBits, binary64}
+use lib.Ieee.{ofBits, toBits, binary64}
 use lib.Ieee.Exact.{HasValue}
 use Rattle.rounding.specs.declared.Direction.{Direction}
 use Rattle.rounding.specs.Machine.{signBit, Stands, Rounds}
-use Rattle.ieee754.specs.Operations.{zeroSign}
+use Rattle.ieee754.specs.Operations.{zeroSign, fusedMultiplyAdd}
 use Rattle.operands.specs.declared.Parts.{Parts}
 
 -- ---- patterns
@@ -78,3 +78,7 @@ pub record Addends (A B c x y e : ℕ) : Type 0 where
 -- r is the pattern of what w stands for, rounded, where 0 is an exact zero sum of unlike signs
 abbrev pub RoundsSum : Direction → Bool → ℕ → ℕ → ℕ → Type 0
 RoundsSum d s w e r = (w ≡ 0 → r ≡ signBit (zeroSign d)) × (0 < w → Rounds d s w e r)
+
+-- a * b + c as a pattern, where none of the three is a NaN
+abbrev pub fusedFloats : Direction → ℕ → ℕ → ℕ → ℕ
+fusedFloats d a b c = toBits binary64 (fusedMultiplyAdd d (ofBits binary64 a) (ofBits binary64 b) (ofBits binary64 c))

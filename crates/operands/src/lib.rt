@@ -4,13 +4,17 @@ ghost use mathlib.Core.Path.{_≡_};
 ghost use mathlib.Core.Bool.{true, cond};
 ghost use Prim.Native.Nat.{_+_, _*_, _^_, _<_};
 ghost use lib.Ieee.{unlike};
+ghost use Rattle.ieee754.specs.Operations.{quiet};
 ghost use Rattle.operands.specs.Machine.{signOf, fieldOf, Middle, Regular, Normal, Reads};
 use rounding::INFINITY;
 use rounding::LEADING;
 use rounding::SIGN;
 
-// The pattern that every NaN result has.
+// The pattern of a NaN result where no operand is a NaN.
 pub const NAN: u64 = 0x7ff8000000000000;
+
+// The top bit of a fraction.
+const TOP: u64 = 0x8000000000000;
 
 // A finite number that is not zero, without its sign: m * 2^e in units of 2^-1126, with m of 53 digits.
 pub struct Parts {
@@ -36,6 +40,13 @@ pub fn pick_sign(b: bool, x: bool, y: bool) -> bool
     ensures { λ r. ⌜ r ≡ cond b x y ⌝ }
 {
     if b { x } else { y }
+}
+
+// A NaN with its sign and payload and with its top fraction bit set.
+pub fn quiet(b: u64) -> u64
+    ensures { λ r. ⌜ r ≡ quiet b ⌝ }
+{
+    b / LEADING * LEADING + TOP + b % TOP
 }
 
 // The exponent field.

@@ -5,6 +5,7 @@ use Prim.Native.Nat.{ℕ, suc, _+_, _-_, _*_, _^_, _≤_, _<_}
 use native.Mathlib.Nat.{le-trans, le-of-eq, le-of-lt, lt-of-lt-of-le, lt-of-le-of-lt, mul-one, one-mul, mul-comm, mul-assoc, mul-left-comm, add-zero, zero-add, zero-mul, mul-pos, mul-le-mul-right, mul-le-mul-left, mul-lt-mul-of-pos-right, lt-of-mul-lt-mul-right}
 use native.Mathlib.Omega.{arith}
 use mathlib.Core.Bool.{Bool, cond}
+use mathlib.Core.List.{[]}
 use lib.IntN.{ℤ, pos, negsuc}
 use lib.Dec.{lit≤, lit<}
 use lib.Pow.{pow-add, pow-pos, pow-mono}
@@ -20,13 +21,14 @@ use Rattle.rounding.specs.Rounding.{whole, roundTo}
 use Rattle.rounding.specs.Machine.{signBit, overflowBits, packed, Stands}
 use Rattle.rounding.proofs.Place.{under, wholeAt, Sits}
 use Rattle.rounding.proofs.Rounding.{bits-at, bits-normal}
-use Rattle.ieee754.specs.Operations.{scaleB, scaleBits}
+use Rattle.ieee754.specs.Operations.{scaleB, quiet, scaleBits}
+use Rattle.ieee754.proofs.Nans.{nan-first, number-last}
 use Rattle.operands.specs.Machine.{signOf, magnitude, scaledExponent}
-use Rattle.operands.proofs.Reading.{nan-bits, inf-back, pattern-back, zero-round, read-nan, read-inf, read-zero}
+use Rattle.operands.proofs.Reading.{inf-back, pattern-back, zero-round, read-inf, read-zero}
 
-pub scale-is : (a : ℕ) (n : ℤ) → toBits binary64 (scaleB Nearest (ofBits binary64 a) n) ≡ scaleBits a n
+pub scale-is : (a : ℕ) (n : ℤ) → magnitude a ≤ 0x7ff0000000000000 → toBits binary64 (scaleB Nearest (ofBits binary64 a) n) ≡ scaleBits a n
 unfolding scaleBits
-scale-is a n = refl
+scale-is a n h = number-last a _ h
 
 -- what `round_pack` ensures
 abbrev pub Packs : Direction → Bool → ℕ → ℕ → ℕ → Type 0
@@ -196,16 +198,16 @@ scaled-answer d s m e r (negsuc k) v lo hi h f = ⊎-elim
 
 -- ---- a zero, an infinity or a NaN
 
-pub scale-nan : (a : ℕ) (n : ℤ) → 0x7ff0000000000000 < magnitude a → 0x7ff8000000000000 ≡ scaleBits a n
-unfolding scaleB
-scale-nan a n h = nan-bits ∙ ap (λ (v : Float). toBits binary64 (scaleB Nearest v n)) (sym (read-nan a h)) ∙ scale-is a n
+pub scale-nan : (a : ℕ) (n : ℤ) → 0x7ff0000000000000 < magnitude a → quiet a ≡ scaleBits a n
+unfolding scaleBits
+scale-nan a n h = nan-first a [] _ h
 
 pub scale-inf : (a : ℕ) (n : ℤ) → a < 2 ^ 64 → magnitude a ≡ 0x7ff0000000000000 → a ≡ scaleBits a n
 unfolding scaleB
-scale-inf a n A h = inf-back a A h ∙ ap (λ (v : Float). toBits binary64 (scaleB Nearest v n)) (sym (read-inf a h)) ∙ scale-is a n
+scale-inf a n A h = inf-back a A h ∙ ap (λ (v : Float). toBits binary64 (scaleB Nearest v n)) (sym (read-inf a h)) ∙ scale-is a n (le-of-eq h)
 
 pub scale-zero : (a : ℕ) (n : ℤ) → a < 2 ^ 64 → magnitude a ≡ 0 → a ≡ scaleBits a n
 unfolding scaleB
 scale-zero a n A h =
     sym (pattern-back a 0 A h) ∙ add-zero (signBit (signOf a)) ∙ zero-round Nearest (signOf a) (0 * up n) (1 * down n) (zero-mul (up n)) (mul-pos (pow-pos 0) (down-pos n))
-    ∙ ap (λ (v : Float). toBits binary64 (scaleB Nearest v n)) (sym (read-zero a h)) ∙ scale-is a n
+    ∙ ap (λ (v : Float). toBits binary64 (scaleB Nearest v n)) (sym (read-zero a h)) ∙ scale-is a n (le-trans (le-of-eq h) (lit≤ tt))

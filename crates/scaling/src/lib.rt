@@ -1,13 +1,13 @@
 // Scaling by a power of two, on 64-bit patterns. The public call is total, and its contract is an equation with
-// `scaleBits` of ieee754's specs/Operations.antt. A NaN result is always 0x7ff8000000000000.
+// `scaleBits` of ieee754's specs/Operations.antt. A NaN is returned, quiet.
 //
 // Exponents past those of every result are brought to a bound, whose rounding is the same.
 ghost use mathlib.Core.Path.{_≡_};
 ghost use Prim.Native.Nat.{_≤_};
 ghost use Rattle.operands.specs.Machine.{Regular, scaledExponent};
 ghost use Rattle.ieee754.specs.Operations.{scaleBits};
-use operands::NAN;
 use operands::negative;
+use operands::quiet;
 use operands::read;
 use rounding::Direction;
 use rounding::INFINITY;
@@ -48,7 +48,7 @@ pub fn scale(x: u64, n: i32) -> u64
 {
     let m = x % SIGN;
     if INFINITY < m {
-        return NAN;
+        return quiet(x);
     }
     if m == INFINITY {
         return x;

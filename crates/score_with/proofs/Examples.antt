@@ -6,7 +6,7 @@ use lib.Dec.{T, eqb}
 use lib.Ieee.{round, add, sub, mul, neg, eq, le, lt, ofBits, toBits, toSigned}
 use Rattle.reply.specs.declared.Reply.{Reply}
 use Rattle.reply.specs.declared.Reply.the-variants.{Refused, Bits}
-use Rattle.ieee754.specs.Operations.{fusedMultiplyAdd, roundToIntegral}
+use Rattle.ieee754.specs.Operations.{fusedMultiplyAdd, roundToIntegral, firstNan}
 use Rattle.pair.specs.Pair.{bits}
 use Rattle.double_double.specs.Pairs.{fastTwoSum, fastSum, aMul, sMul, dMul}
 use Rattle.exceptions.specs.declared.Entry.{Entry}
@@ -57,7 +57,8 @@ cases =
     -- an entry of the first table, whose reply there is 0x397115aa0fb29a6f: without a list two terms decide
     gives [] 0x3978a5dd21ef35af (Bits 0x397115aa0fb29a70) ∷
     -- steps 1 to 4
-    gives good 0x7ff0000000000001 (Bits 0x7ff8000000000000) ∷
+    gives good 0x7ff0000000000001 (Bits 0x7ff8000000000001) ∷
+    gives good 0xffffffffffffffff (Bits 0xffffffffffffffff) ∷
     gives good 0xfff0000000000000 (Bits 0xbff0000000000000) ∷
     gives good 0x4090000000000000 (Bits 0x7ff0000000000000) ∷
     gives good 0x8000000000000000 (Bits 0x8000000000000000) ∷
@@ -68,8 +69,9 @@ cases =
     gives bad 0xfff0000000000000 (Refused 13) ∷
     gives bad 0 (Refused 13) ∷
     gives long 0x3ab0000000000000 (Refused 12) ∷
+    gives long 0x7ff0000000000001 (Refused 12) ∷
     []
 
 pub replies : T (allRight cases)
-unfolding cases allRight scoredWith refusalOf allGood ascending isGood steps isWhole rounded find entriesFrom exp2m1Scaled exp2m1TwoTerms powerLessOne exp2m1Whole fastTwoSum fastSum aMul sMul dMul fusedMultiplyAdd roundToIntegral round add sub mul neg eq le lt ofBits toBits toSigned
+unfolding cases allRight scoredWith refusalOf allGood ascending isGood firstNan steps isWhole rounded find entriesFrom exp2m1Scaled exp2m1TwoTerms powerLessOne exp2m1Whole fastTwoSum fastSum aMul sMul dMul fusedMultiplyAdd roundToIntegral round add sub mul neg eq le lt ofBits toBits toSigned
 replies = tt

@@ -1,9 +1,8 @@
 -- Step 5 is the one that looks at the list, and finds in it what there is; and that at a list, in step 5 and outside of it. Assumes nothing.
-use mathlib.Core.Path.{_≡_, refl, ap}
+use mathlib.Core.Path.{_≡_, refl}
 use mathlib.Core.List.{List, [], _∷_}
 use Prim.Native.Nat.{ℕ, _<_, _^_}
 use lib.Dec.{lit<}
-use lib.Ieee.{binary64, toBits}
 use Rattle.pair.specs.Pair.{bits}
 use Rattle.exceptions.specs.declared.Entry.{Entry}
 use Rattle.exceptions.specs.declared.Stretch.the-variants.{First}
@@ -17,8 +16,8 @@ use Rattle.score_with.specs.Score.{Listed, EveryListed}
 pub listed : EveryListed
 unfolding scoreBits
 listed list x l = record {
-  in-step-5 = λ s. (finds list (bits x), ap (toBits binary64) (small list x (bits x) l s));
-  elsewhere = λ s. ap (toBits binary64) (elsewhere list x (bits x) (entries First) s);
+  in-step-5 = λ s. (finds list (bits x), small list x l s);
+  elsewhere = λ s. elsewhere list x (entries First) s;
 }
 
 -- -2 ^ -84 to 1

@@ -21,11 +21,11 @@ use Rattle.exp2m1.proofs.score_found.Tie as tie
 in-step-5 : (ux : ℕ) {x y : Float} {f : Found} {r : ℕ} → ux < 2 ^ 64 → isSmall ux ≡ true → x ≡ bits ux → y ≡ orElse f (exp2m1TwoTerms x) → r ≡ toBits binary64 y
     → (list : List Entry) → f ≡ find list (bits ux) → r ≡ scoreWith list ux
 in-step-5 ux l s hx hy hr list h =
-    hr ∙ ap (toBits binary64) (hy ∙ ap₂ (λ (g : Found) (z : Float). orElse g (exp2m1TwoTerms z)) h hx ∙ sym (small list ux (bits ux) l s))
+    hr ∙ ap (toBits binary64) (hy ∙ ap₂ (λ (g : Found) (z : Float). orElse g (exp2m1TwoTerms z)) h hx) ∙ sym (small list ux l s)
 
 elsewhere-too : (ux : ℕ) {f : Found} {r : ℕ} → isSmall ux ≡ false → r ≡ scoreBits ux → (list : List Entry) → f ≡ find list (bits ux) → r ≡ scoreWith list ux
 unfolding scoreBits
-elsewhere-too ux s hr list h = hr ∙ ap (toBits binary64) (elsewhere (entries First) ux (bits ux) list s)
+elsewhere-too ux s hr list h = hr ∙ elsewhere (entries First) ux list s
 
 returns : tie.Need-returns
 returns c =

@@ -1,7 +1,12 @@
 -- `fast_fused::fused` meets its contract. Assumes nothing.
-use mathlib.Core.Path.{_≡_, subst}
-use Prim.Native.Nat.{ℕ}
+use mathlib.Core.Path.{_≡_, _∙_, subst}
+use Prim.Native.Nat.{ℕ, _≤_, _<_}
+use native.Mathlib.Nat.{lt-of-lt-of-le}
+use native.Mathlib.Omega.{arith}
+use lib.Dec.{lit≤}
 use borrow.Author.Needs.{needs}
+use Rattle.ieee754.proofs.Nans.{fused-numbers}
+use Rattle.operands.specs.Machine.{magnitude, fieldOf, Middle}
 use Rattle.fast_fused.specs.Machine.{Near, Small}
 use Rattle.fast_fused.proofs.fused.Statement.{statement}
 use Rattle.fast_fused.proofs.fused.Tie as tie
@@ -39,11 +44,25 @@ fused-small-requires c κs =
 fused-nearest-requires : tie.Need-fused-nearest-requires
 fused-nearest-requires c κs = search needs
 
+-- with a field that is not the highest it is a number
+number : (b : ℕ) → fieldOf b < 2047 → magnitude b ≤ 0x7ff0000000000000
+number b h = omega arith
+
+middle : {x : ℕ} → Middle x → x < 2047
+middle h = lt-of-lt-of-le (h .1) (lit≤ tt)
+
+near : (x y z : ℕ) → Near x y z → z < 2047
+near x y z n = let a = n .first .1 in let b = n .second .1 in let u = n .under in omega arith
+
 returns : tie.Need-returns
-returns c = search needs
+returns c =
+    let n = fused-near-requires (c .before) (c .fused-near .lifetimes) in
+    c .fused-near .ensures ∙ fused-numbers _ _ _ _ (number _ (middle (n .first))) (number _ (middle (n .second))) (number _ (near _ _ _ n))
 
 returns-2 : tie.Need-returns-2
-returns-2 c = search needs
+returns-2 c =
+    let n = fused-small-requires (c .before) (c .fused-small .lifetimes) in
+    c .fused-small .ensures ∙ fused-numbers _ _ _ _ (number _ (middle (n .first))) (number _ (middle (n .second))) (number _ (middle (n .third)))
 
 returns-3 : tie.Need-returns-3
 returns-3 c = search needs

@@ -1,9 +1,16 @@
 -- `multiply_add::fused_in` meets its contract. Assumes nothing.
 use mathlib.Core.Path.{sym, _∙_}
+use Prim.Native.Nat.{ℕ, _≤_}
+use native.Mathlib.Nat.{le-of-lt}
 use mathlib.Core.Bool.{true≢false}
 use borrow.Author.Needs.{needs}
+use Rattle.ieee754.proofs.Nans.{fused-numbers}
+use Rattle.operands.specs.Machine.{magnitude, Regular}
 use Rattle.multiply_add.proofs.fused_in.Statement.{statement}
 use Rattle.multiply_add.proofs.fused_in.Tie as tie
+
+number : (x : ℕ) → Regular x → magnitude x ≤ 0x7ff0000000000000
+number x h = le-of-lt (h .1)
 
 is-regular-requires : tie.Need-is-regular-requires
 is-regular-requires c κs = search needs
@@ -31,7 +38,9 @@ fused-special-requires-3 : tie.Need-fused-special-requires-3
 fused-special-requires-3 c κs = λ x y z. true≢false (sym (c .before .is-regular .ensures .1 x) ∙ c .if1 .left)
 
 returns : tie.Need-returns
-returns c = search needs
+returns c =
+    let n = fused-nonzero-requires (c .before) (c .fused-nonzero .lifetimes) in
+    c .fused-nonzero .ensures ∙ fused-numbers _ _ _ _ (number _ (n .0)) (number _ (n .1)) (number _ (n .2))
 
 returns-2 : tie.Need-returns-2
 returns-2 c = search needs

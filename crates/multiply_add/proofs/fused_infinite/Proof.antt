@@ -25,14 +25,14 @@ full x y h f e = ⊎-elim (λ q. q) (λ l. absurd (no y e (f l))) (eq-or-lt-of-l
     no y a b = omega arith
 
 returns : tie.Need-returns
-returns c = λ d. let s = c .before in let a = s .args in zero-inf d (a .a) (a .b) (a .c) (c .if1 .taken) (s .pre .2 (small (magnitude (a .a)) (c .if1 .taken)))
+returns c = λ d. let s = c .before in let a = s .args in zero-inf d (a .a) (a .b) (a .c) (c .if1 .taken) (s .pre .3 (small (magnitude (a .a)) (c .if1 .taken)))
 
 returns-2 : tie.Need-returns-2
 returns-2 c =
     λ d.
     let s = c .before .before in
     let a = s .args in
-    inf-zero d (a .a) (a .b) (a .c) (full (magnitude (a .a)) (magnitude (a .b)) (s .pre .0) (s .pre .2) (c .if2 .taken)) (c .if2 .taken)
+    inf-zero d (a .a) (a .b) (a .c) (full (magnitude (a .a)) (magnitude (a .b)) (s .pre .0) (s .pre .3) (c .if2 .taken)) (c .if2 .taken)
 
 unlike-signs-requires : tie.Need-unlike-signs-requires
 unlike-signs-requires c κs = search needs
@@ -48,7 +48,7 @@ returns-3 c =
     let s = e .before .before in
     let a = s .args in
     c .infinite-product .ensures d
-    ∙ ap (λ (p : Product). toBits binary64 (plus d p (ofBits binary64 (a .c)))) (ap (λ (t : Bool). infinite t) (u .unlike-signs .ensures) ∙ sym (infinite-product (a .a) (a .b) (s .pre .0) (s .pre .1) (s .pre .2) (e .before .if1 .left) (e .if2 .left)))
+    ∙ ap (λ (p : Product). toBits binary64 (plus d p (ofBits binary64 (a .c)))) (ap (λ (t : Bool). infinite t) (u .unlike-signs .ensures) ∙ sym (infinite-product (a .a) (a .b) (s .pre .0) (s .pre .1) (s .pre .3) (e .before .if1 .left) (e .if2 .left)))
     ∙ sym (fused-is d (a .a) (a .b) (a .c))
 
 pub fused-infinite-spec : {M : Type 1} → statement M

@@ -1,6 +1,7 @@
 -- `scaling::scale_regular` meets its contract. Assumes nothing.
 use mathlib.Core.Path.{_≡_, sym, ap, _∙_, subst}
 use Prim.Native.Nat.{ℕ, _*_, _^_, _≤_}
+use native.Mathlib.Nat.{le-of-lt}
 use mathlib.Core.Bool.{Bool}
 use mir.Syntax.{w32}
 use mir.ValLaws.{toZ-ofZ}
@@ -48,7 +49,7 @@ returns c =
     let v = r .read .ensures in
     scaled-answer Nearest (signOf (s .args .x)) (p .m) (p .e) (c .round-pack .result) (s .args .n) (ofBits binary64 (s .args .x)) (v .normal .low) (v .normal .high) (v .value)
     (subst (λ (x : ℕ). Packs Nearest (signOf (s .args .x)) (p .m * 2048) x (c .round-pack .result)) (exponent e) (subst (λ (t : Bool). Packs Nearest t (p .m * 2048) (e .scaled-exponent .result) (c .round-pack .result)) (n .negative .ensures) (c .round-pack .ensures)))
-    ∙ scale-is (s .args .x) (s .args .n)
+    ∙ scale-is (s .args .x) (s .args .n) (le-of-lt (s .pre .1))
 
 pub scale-regular-spec : {M : Type 1} → statement M
 scale-regular-spec = tie.close (tie.spec negative-requires read-requires scaled-exponent-requires mul-round-pack round-pack-requires returns)
