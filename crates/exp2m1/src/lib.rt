@@ -95,10 +95,6 @@ fn cr_exp2m1(x: f64) -> f64
         return MINUS_ONE;
     }
     if ax >= 0x4090000000000000 {
-        // x = NaN or x >= 1024
-        if ax > 0x7ff0000000000000 {
-            return x + x;
-        }
         // for x >= 1024, exp2m1(x) rounds to +Inf to nearest
         return f64::from_bits(0x7ff0000000000000);
     }

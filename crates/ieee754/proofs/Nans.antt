@@ -5,11 +5,14 @@ use mathlib.Core.List.{List, [], _∷_}
 use Prim.Native.Nat.{ℕ, _+_, _*_, _/_, _%_, _^_, _≤_, _<_}
 use native.Mathlib.Omega.{arith}
 use borrow.Author.Tests.{le-ltb, lt-ltb, ltb-true}
-use lib.Ieee.{Float, nan, inf, fin, binary64, isNan, nanBits, ofBits, toBits}
-use lib.Ieee.Bits.{nanBits-is, nanBits-above}
+use lib.Dec.{T}
+use lib.Ieee.{Float, nan, inf, fin, binary64, fits, isNan, nanBits, ofBits, toBits}
+use lib.Ieee.Bits.{ofBits-toBits, nanBits-is, nanBits-above}
 use Rattle.rounding.specs.declared.Direction.{Direction}
-use Rattle.ieee754.specs.Operations.{Product, invalid, infinite, exactly, product, plus, fusedMultiplyAdd, quiet, firstNan, fusedBits}
-use Rattle.ieee754.specs.Nans.{Returned, Quiets}
+use Rattle.rounding.specs.declared.Direction.the-variants.{Nearest, Down}
+use Rattle.ieee754.specs.Operations.{Product, invalid, infinite, exactly, product, plus, fusedMultiplyAdd, roundToIntegral, scaleB, quiet, firstNan, fusedBits, roundBits, floorBits, scaleBits}
+use Rattle.ieee754.specs.Nans.{Returned, Quiets, SameFloats}
+use Rattle.ieee754.proofs.Fits.{fused-fits, integral-fits, scale-fits}
 
 -- ---- which patterns are a NaN's
 pub nan-pattern : (x : ℕ) → 0x7ff0000000000000 < x % 2 ^ 63 → nanBits binary64 x ≡ true
@@ -67,7 +70,7 @@ pub fused-numbers : (d : Direction) (a b c : ℕ) → a % 2 ^ 63 ≤ 0x7ff000000
 fused-numbers d a b c x y z = number-last c _ z ∙ number-first b (c ∷ []) _ y ∙ number-first a (b ∷ c ∷ []) _ x ∙ fused-by d a b c
 
 -- ---- on floats
-pub only-nan : (x : Float) → isNan x ≡ true → x ≡ nan
+only-nan : (x : Float) → isNan x ≡ true → x ≡ nan
 unfolding isNan
 only-nan nan e = refl
 only-nan (inf s) e = absurd (true≢false (sym e))
@@ -77,7 +80,7 @@ pub nan-read : (x : ℕ) → nanBits binary64 x ≡ true → ofBits binary64 x �
 nan-read x h = only-nan (ofBits binary64 x) (sym (nanBits-is binary64 x) ∙ h)
 
 -- a result that is a NaN where the operand x is one, and else what follows: what is returned is read as it
-pub read-first : (x : ℕ) (xs : List ℕ) (r : ℕ) (f : Float) → (ofBits binary64 x ≡ nan → nan ≡ f) → ofBits binary64 (firstNan xs r) ≡ f → ofBits binary64 (firstNan (x ∷ xs) r) ≡ f
+read-first : (x : ℕ) (xs : List ℕ) (r : ℕ) (f : Float) → (ofBits binary64 x ≡ nan → nan ≡ f) → ofBits binary64 (firstNan xs r) ≡ f → ofBits binary64 (firstNan (x ∷ xs) r) ≡ f
 unfolding firstNan
 read-first x xs r f n h = go (nanBits binary64 x) refl
   where
@@ -97,14 +100,36 @@ plus-nan d invalid = refl
 plus-nan d (infinite s) = refl
 plus-nan d (exactly s a c) = refl
 
-pub fused-nan-x : (d : Direction) (x y z : Float) → x ≡ nan → nan ≡ fusedMultiplyAdd d x y z
+fused-nan-x : (d : Direction) (x y z : Float) → x ≡ nan → nan ≡ fusedMultiplyAdd d x y z
 unfolding fusedMultiplyAdd
 fused-nan-x d x y z e = ap (λ (v : Float). plus d (product v y) z) (sym e)
 
-pub fused-nan-y : (d : Direction) (x y z : Float) → y ≡ nan → nan ≡ fusedMultiplyAdd d x y z
+fused-nan-y : (d : Direction) (x y z : Float) → y ≡ nan → nan ≡ fusedMultiplyAdd d x y z
 unfolding fusedMultiplyAdd
 fused-nan-y d x y z e = sym (ap (λ (v : Float). plus d (product x v) z) e ∙ ap (λ (p : Product). plus d p z) (product-nan x))
 
-pub fused-nan-z : (d : Direction) (x y z : Float) → z ≡ nan → nan ≡ fusedMultiplyAdd d x y z
+fused-nan-z : (d : Direction) (x y z : Float) → z ≡ nan → nan ≡ fusedMultiplyAdd d x y z
 unfolding fusedMultiplyAdd
 fused-nan-z d x y z e = plus-nan d (product x y) ∙ ap (plus d (product x y)) (sym e)
+
+-- one operand: an operation on floats that gives a NaN for a NaN
+read-one : (op : Float → Float) → nan ≡ op nan → ((v : Float) → T (fits binary64 (op v))) → (x : ℕ) → ofBits binary64 (firstNan (x ∷ []) (toBits binary64 (op (ofBits binary64 x)))) ≡ op (ofBits binary64 x)
+unfolding firstNan
+read-one op n f x =
+    let v = ofBits binary64 x in
+    read-first x [] (toBits binary64 (op v)) (op v) (λ e. n ∙ ap op (sym e)) (ofBits-toBits binary64 (op v) (f v))
+
+pub same-floats : SameFloats
+unfolding firstNan fusedBits roundBits floorBits scaleBits
+same-floats = record {
+  fused = λ d a b c.
+    let u = ofBits binary64 a in
+    let v = ofBits binary64 b in
+    let w = ofBits binary64 c in
+    let f = fusedMultiplyAdd d u v w in
+    let r = toBits binary64 f in
+    read-first a (b ∷ c ∷ []) r f (fused-nan-x d u v w) (read-first b (c ∷ []) r f (fused-nan-y d u v w) (read-first c [] r f (fused-nan-z d u v w) (ofBits-toBits binary64 f (fused-fits d u v w))));
+  round = read-one (roundToIntegral Nearest) refl (integral-fits Nearest);
+  floor = read-one (roundToIntegral Down) refl (integral-fits Down);
+  scale = λ x n. read-one (λ v. scaleB Nearest v n) refl (λ v. scale-fits Nearest v n) x;
+}

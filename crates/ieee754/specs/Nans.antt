@@ -1,9 +1,12 @@
--- Request A.7: "that NaN with its sign and payload and with its top fraction bit set". Definitions only.
+-- Request A.7: "that NaN with its sign and payload and with its top fraction bit set"; and that no more comes of it than a NaN's bits. Definitions only.
 use mathlib.Core.Path.{_≡_}
 use mathlib.Core.Bool.{true}
 use Prim.Native.Nat.{ℕ, _/_, _%_, _^_}
-use lib.Ieee.{binary64, nanBits}
-use Rattle.ieee754.specs.Operations.{quiet}
+use lib.IntN.{ℤ}
+use lib.Ieee.{binary64, nanBits, ofBits}
+use Rattle.rounding.specs.declared.Direction.{Direction}
+use Rattle.rounding.specs.declared.Direction.the-variants.{Nearest, Down}
+use Rattle.ieee754.specs.Operations.{fusedMultiplyAdd, roundToIntegral, scaleB, quiet, fusedBits, roundBits, floorBits, scaleBits}
 
 -- y is x so
 pub record Returned (x y : ℕ) : Type 0 where
@@ -15,3 +18,10 @@ pub record Returned (x y : ℕ) : Type 0 where
 -- for every NaN quiet gives the pattern that is it so, and the only one
 abbrev pub Quiets : Type 0
 Quiets = (x : ℕ) → nanBits binary64 x ≡ true → Returned x (quiet x) × ((y : ℕ) → Returned x y → y ≡ quiet x)
+
+-- a result on patterns is read as the result on floats: of a NaN operand it is a NaN
+pub record SameFloats : Type 0 where
+  pub fused : (d : Direction) (a b c : ℕ) → ofBits binary64 (fusedBits d a b c) ≡ fusedMultiplyAdd d (ofBits binary64 a) (ofBits binary64 b) (ofBits binary64 c)
+  pub round : (x : ℕ) → ofBits binary64 (roundBits x) ≡ roundToIntegral Nearest (ofBits binary64 x)
+  pub floor : (x : ℕ) → ofBits binary64 (floorBits x) ≡ roundToIntegral Down (ofBits binary64 x)
+  pub scale : (x : ℕ) (n : ℤ) → ofBits binary64 (scaleBits x n) ≡ scaleB Nearest (ofBits binary64 x) n

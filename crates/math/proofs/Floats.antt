@@ -2,16 +2,14 @@
 use mathlib.Core.Path.{_≡_, refl, sym, ap, ap₂, _∙_, subst}
 use Prim.Native.Nat.{ℕ, _*_, _%_, _≤_, _<_}
 use mathlib.Core.Bool.{Bool, true, false, not, _&&_, _||_, Bool·beq, true≢false}
-use mathlib.Core.List.{[], _∷_}
 use lib.Dec.{T, eqb}
 use borrow.Author.Tests.{eq-eqb}
 use lib.Ieee.{Float, nan, inf, fin, binary64, up, down, ne, isNan, fits, div, nanBits, ofBits, toBits}
 use lib.Ieee.Bits.{ofBits-toBits}
 use Rattle.rounding.specs.declared.Direction.{Direction}
 use Rattle.rounding.specs.declared.Direction.the-variants.{Nearest, Down}
-use Rattle.ieee754.specs.Operations.{fusedMultiplyAdd, roundToIntegral, firstNan, fusedBits, roundBits, floorBits}
-use Rattle.ieee754.proofs.Nans.{nan-pattern, number-pattern, nan-read, read-first, fused-nan-x, fused-nan-y, fused-nan-z}
-use Rattle.math.proofs.Fits.{fused-fits, integral-fits}
+use Rattle.ieee754.specs.Operations.{fusedMultiplyAdd, roundToIntegral, fusedBits, roundBits, floorBits}
+use Rattle.ieee754.proofs.Nans.{nan-pattern, number-pattern, nan-read, same-floats}
 
 -- ---- x != x says that x is a NaN
 
@@ -52,30 +50,13 @@ pattern-number b h = subst (λ (t : Bool). T (not t)) (sym (number-pattern b h))
 pub back : (x : Float) (a : ℕ) → fits binary64 x ≡ true → a ≡ toBits binary64 x → ofBits binary64 a ≡ x
 back x a f e = ap (ofBits binary64) e ∙ ofBits-toBits binary64 x (subst (λ (t : Bool). T t) (sym f) tt)
 
--- ---- operations: a pattern that an operation gives is read as what the operation on floats gives, a NaN too
+-- ---- operations
 
 pub fused-read : (d : Direction) (a b c w : ℕ) → w ≡ fusedBits d a b c → ofBits binary64 w ≡ fusedMultiplyAdd d (ofBits binary64 a) (ofBits binary64 b) (ofBits binary64 c)
-unfolding firstNan fusedBits
-fused-read d a b c w e =
-    let u = ofBits binary64 a in
-    let v = ofBits binary64 b in
-    let t = ofBits binary64 c in
-    let f = fusedMultiplyAdd d u v t in
-    let r = toBits binary64 f in
-    ap (ofBits binary64) e
-    ∙ read-first a (b ∷ c ∷ []) r f (fused-nan-x d u v t) (read-first b (c ∷ []) r f (fused-nan-y d u v t) (read-first c [] r f (fused-nan-z d u v t) (ofBits-toBits binary64 f (fused-fits d u v t))))
-
-whole-read : (d : Direction) (a : ℕ) → ofBits binary64 (firstNan (a ∷ []) (toBits binary64 (roundToIntegral d (ofBits binary64 a)))) ≡ roundToIntegral d (ofBits binary64 a)
-unfolding firstNan roundToIntegral
-whole-read d a =
-    let u = ofBits binary64 a in
-    let f = roundToIntegral d u in
-    read-first a [] (toBits binary64 f) f (λ n. ap (roundToIntegral d) (sym n)) (ofBits-toBits binary64 f (integral-fits d u))
+fused-read d a b c w e = ap (ofBits binary64) e ∙ same-floats .fused d a b c
 
 pub round-floats : (x r : Float) (a w : ℕ) → fits binary64 x ≡ true → a ≡ toBits binary64 x → w ≡ roundBits a → r ≡ ofBits binary64 w → r ≡ roundToIntegral Nearest x
-unfolding roundBits
-round-floats x r a w f ea ew er = er ∙ ap (ofBits binary64) ew ∙ whole-read Nearest a ∙ ap (roundToIntegral Nearest) (back x a f ea)
+round-floats x r a w f ea ew er = er ∙ ap (ofBits binary64) ew ∙ same-floats .round a ∙ ap (roundToIntegral Nearest) (back x a f ea)
 
 pub floor-floats : (x r : Float) (a w : ℕ) → fits binary64 x ≡ true → a ≡ toBits binary64 x → w ≡ floorBits a → r ≡ ofBits binary64 w → r ≡ roundToIntegral Down x
-unfolding floorBits
-floor-floats x r a w f ea ew er = er ∙ ap (ofBits binary64) ew ∙ whole-read Down a ∙ ap (roundToIntegral Down) (back x a f ea)
+floor-floats x r a w f ea ew er = er ∙ ap (ofBits binary64) ew ∙ same-floats .floor a ∙ ap (roundToIntegral Down) (back x a f ea)

@@ -1,4 +1,3 @@
--- Floats and their patterns, and that the operations give values that the format holds.
+-- Floats and their patterns, and rounding by a shift.
 mod Floats
 pub mod Shift
-pub mod Fits

@@ -15,7 +15,7 @@ use Rattle.exp2m1.proofs.score.Tie as tie
 
 follows : (ux : ℕ) {x y : Float} {r : ℕ} → ux < 2 ^ 64 → ux % 2 ^ 63 ≤ 0x7ff0000000000000 → x ≡ ofBits binary64 ux → y ≡ steps (entries First) (toBits binary64 x) x → r ≡ toBits binary64 y → r ≡ scoreBits ux
 unfolding scoreBits
-follows ux l n h1 h2 h3 = h3 ∙ ap (toBits binary64) (h2 ∙ ap (λ (x : Float). steps (entries First) (toBits binary64 x) x) h1 ∙ same-steps (entries First) ux l) ∙ number-last ux _ n
+follows ux l n h1 h2 h3 = h3 ∙ ap (toBits binary64) (h2 ∙ ap (λ (x : Float). steps (entries First) (toBits binary64 x) x) h1 ∙ same-steps (entries First) ux l n) ∙ number-last ux _ n
 
 missing : (ux : ℕ) {r : ℕ} → 0x7ff0000000000000 < ux % 2 ^ 63 → r ≡ quiet ux → r ≡ scoreBits ux
 unfolding scoreBits

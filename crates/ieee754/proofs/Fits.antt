@@ -2,14 +2,14 @@
 use Prim.Native.Nat.{ℕ, _+_, _-_, _*_, _<_}
 use native.Mathlib.Nat.{mul-pos}
 use mathlib.Core.Bool.{Bool, true, false, cond, Bool·beq}
-use lib.IntN.{pos}
+use lib.IntN.{ℤ, pos}
 use lib.Dec.{T, ltb, eqb, lit<}
 use lib.Ieee.{Float, nan, inf, fin, binary64, unlike, up, down, fits}
 use lib.Ieee.Fits.{cond-fits, nan-fits, inf-fits, down-pos}
 use Rattle.rounding.specs.declared.Direction.{Direction}
 use Rattle.rounding.specs.Rounding.{whole, roundTo}
 use Rattle.rounding.proofs.Fits.{rounded-fits}
-use Rattle.ieee754.specs.Operations.{Product, invalid, infinite, exactly, product, zeroSign, sumTo, plus, fusedMultiplyAdd, roundToIntegral}
+use Rattle.ieee754.specs.Operations.{Product, invalid, infinite, exactly, product, zeroSign, sumTo, plus, fusedMultiplyAdd, roundToIntegral, scaleB}
 
 zero-fits : (s : Bool) → T (fits binary64 (fin s 0 (pos 0)))
 unfolding fits
@@ -60,3 +60,9 @@ unfolding roundToIntegral
 integral-fits d nan = nan-fits binary64
 integral-fits d (inf s) = inf-fits binary64 s
 integral-fits d (fin s m e) = rounded-fits d s (whole d s (m * up e) (down e)) 1 (lit< tt)
+
+pub scale-fits : (d : Direction) (x : Float) (n : ℤ) → T (fits binary64 (scaleB d x n))
+unfolding scaleB
+scale-fits d nan n = nan-fits binary64
+scale-fits d (inf s) n = inf-fits binary64 s
+scale-fits d (fin s m e) n = rounded-fits d s (m * up e * up n) (down e * down n) (mul-pos (down-pos e) (down-pos n))
