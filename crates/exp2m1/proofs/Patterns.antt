@@ -13,6 +13,7 @@ use lib.Ieee.{Float, nan, inf, fin, binary64, odd, ofFields, ofBits, toBits, le,
 use lib.Ieee.Exact.{HasValue, odd-sign}
 use lib.Ieee.Order.{le-of-values}
 use lib.Ieee.Bits.{ofBits-toBits, toBits-lt, nanBits-is, nanBits-above}
+use Rattle.ieee754.proofs.Nans.{only-nan}
 use Rattle.pair.specs.Pair.{bits}
 use Rattle.wide.proofs.Nat.{le-or-gt}
 use Rattle.exponential.specs.Range.{Between, above, below, most, deepest}
@@ -94,6 +95,20 @@ negated a h =
     ∙ (ap (λ (t : ℕ). ofFields binary64 true (a % 2 ^ 63 / 2 ^ 52) t) g
     ∙ (fields-neg (a % 2 ^ 63 / 2 ^ 52) (a % 2 ^ 52)
     ∙ ap neg (ap (λ (b : Bool). ofFields binary64 b (a % 2 ^ 63 / 2 ^ 52) (a % 2 ^ 52)) (sym (lt-leb (2 ^ 63) a h))))))
+
+-- ---- NaN
+is-nan : (x : Float) → T (fits binary64 x) → ltb 0x7ff0000000000000 (toBits binary64 x % 2 ^ 63) ≡ isNan x
+is-nan x f = sym (nanBits-above binary64 (toBits binary64 x)) ∙ nanBits-is binary64 (toBits binary64 x) ∙ ap isNan (ofBits-toBits binary64 x f)
+
+pub nan-above : (x : Float) → T (fits binary64 x) → 0x7ff0000000000000 < toBits binary64 x % 2 ^ 63 → x ≡ nan
+nan-above x f h = only-nan x (sym (is-nan x f) ∙ lt-ltb _ _ h)
+
+-- the one NaN has no sign
+pub negative-number : (x : Float) → T (fits binary64 x) → 0xc04b000000000000 ≤ toBits binary64 x → toBits binary64 x % 2 ^ 63 ≤ 0x7ff0000000000000
+unfolding toBits isNan
+negative-number nan f h = absurd (not-le-of-lt (lit< tt) h)
+negative-number (inf s) f h = ltb-false _ _ (is-nan (inf s) f)
+negative-number (fin s m e) f h = ltb-false _ _ (is-nan (fin s m e) f)
 
 neg-neg : (v : Float) → neg (neg v) ≡ v
 unfolding neg

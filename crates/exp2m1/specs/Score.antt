@@ -2,7 +2,7 @@
 use Prim.Native.Nat.{ℕ, _%_, _^_}
 use mathlib.Core.Bool.{Bool, _&&_, cond}
 use mathlib.Core.List.{List, [], _∷_}
-use lib.Dec.{leb, eqb}
+use lib.Dec.{leb, ltb, eqb}
 use lib.Ieee.{Float, binary64, add, sub, eq, le, toBits}
 use Rattle.rounding.specs.declared.Direction.the-variants.{Down}
 use Rattle.ieee754.specs.Operations.{roundToIntegral, firstNan}
@@ -27,12 +27,14 @@ rounded e r =
     let right = add binary64 (e .pair .hi) (add binary64 (e .pair .lo) (e .err)) in
     cond (eq left right) left r
 
--- steps 2 to 8 for a weight x whose bits are ux, with a list of entries in step 5; ax are the bits without sign
+-- the steps for a weight x whose bits are ux, with a list of entries in step 5; ax are the bits without sign
 unfoldable pub steps : List Entry → ℕ → Float → Float
 steps list ux x =
     let ax = ux % 2 ^ 63 in
+    -- 1. NaN: the one of the floats; scoreWith has its bits
+    cond (ltb 0x7ff0000000000000 ax) (bits 0x7ff8000000000000)
     -- 2. x <= -54: -1
-    cond (leb 0xc04b000000000000 ux) (bits 0xbff0000000000000)
+    (cond (leb 0xc04b000000000000 ux) (bits 0xbff0000000000000)
     -- 3. x >= 1024: +infinity
     (cond (leb 0x4090000000000000 ax) (bits 0x7ff0000000000000)
     -- 4. |x| <= 2 ^ -104: zero itself with its sign, else the steps scaled by 2 ^ 106
@@ -42,9 +44,9 @@ steps list ux x =
     -- 6. a whole number from -53 to 53: exactly
     (cond (isWhole ux x) (exp2m1Whole x)
     -- 7. the fast phase, and 8. the accurate phase where that does not decide
-    (rounded (exp2m1Fast x (leb ax 0x3fc0000000000000)) (exp2m1Accurate x))))))
+    (rounded (exp2m1Fast x (leb ax 0x3fc0000000000000)) (exp2m1Accurate x)))))))
 
--- the bits of the score: 1. NaN: x itself, as request A.7 returns it; else those of the steps
+-- the bits of the score; a NaN has those that request A.7 returns
 abbrev pub scoreWith : List Entry → ℕ → ℕ
 scoreWith list ux = firstNan (ux ∷ []) (toBits binary64 (steps list ux (bits ux)))
 

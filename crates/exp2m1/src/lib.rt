@@ -51,10 +51,14 @@ const SMALL: u64 = 0x3cc0527dbd87e24d;
 pub fn score(x: u64) -> u64
     ensures { λ r. ⌜ r ≡ scoreBits x ⌝ }
 {
-    if INFINITY < x % SIGN {
-        return quiet(x);
+    let y = exp2m1(math::from_bits(x));
+    if y != y {
+        // Here, and not before: every other weight then takes no test more.
+        if INFINITY < x % SIGN {
+            return quiet(x);
+        }
     }
-    math::to_bits(exp2m1(math::from_bits(x)))
+    math::to_bits(y)
 }
 
 // The score where another list stands in for the first table of exceptional cases, and has found for x.
@@ -95,6 +99,10 @@ fn cr_exp2m1(x: f64) -> f64
         return MINUS_ONE;
     }
     if ax >= 0x4090000000000000 {
+        // x = NaN or x >= 1024
+        if ax > 0x7ff0000000000000 {
+            return x + x;
+        }
         // for x >= 1024, exp2m1(x) rounds to +Inf to nearest
         return f64::from_bits(0x7ff0000000000000);
     }

@@ -70,7 +70,7 @@ pub fused-numbers : (d : Direction) (a b c : ℕ) → a % 2 ^ 63 ≤ 0x7ff000000
 fused-numbers d a b c x y z = number-last c _ z ∙ number-first b (c ∷ []) _ y ∙ number-first a (b ∷ c ∷ []) _ x ∙ fused-by d a b c
 
 -- ---- on floats
-only-nan : (x : Float) → isNan x ≡ true → x ≡ nan
+pub only-nan : (x : Float) → isNan x ≡ true → x ≡ nan
 unfolding isNan
 only-nan nan e = refl
 only-nan (inf s) e = absurd (true≢false (sym e))
