@@ -1,6 +1,6 @@
 /* The calls that take bytes across the C interface: the layout of their structs, every byte of a state passed and returned, refused calls,
  * buffers that end where memory does, and NULL for what is empty; the texts of constants; the directions of sums, in calls and in frames;
- * the counts of frames and reports of them; and lists of exceptions. Says which check failed, and then ends with status 1. */
+ * the counts of frames and reports of them; lists of exceptions; and NaN operands. Says which check failed, and then ends with status 1. */
 #define _DEFAULT_SOURCE
 #include <stddef.h>
 #include <stdint.h>
@@ -374,10 +374,9 @@ static const struct sum {
     {{0x0000000000000000, 0x3ff0000000000000, 0x0000000000000000}, {0, 0, 0, 0}},
     {{0x8000000000000000, 0x3ff0000000000000, 0x8000000000000000},
      {0x8000000000000000, 0x8000000000000000, 0x8000000000000000, 0x8000000000000000}},
-    /* infinity, and 0 * infinity + a NaN */
+    /* infinity */
     {{0xfff0000000000000, 0x3ff0000000000000, 0x7fefffffffffffff},
      {0xfff0000000000000, 0xfff0000000000000, 0xfff0000000000000, 0xfff0000000000000}},
-    {{0x0000000000000000, 0x7ff0000000000000, 0xfff8000000000007}, {WEIGHER_NAN, WEIGHER_NAN, WEIGHER_NAN, WEIGHER_NAN}},
 };
 
 static void put(uint8_t *bytes, uint64_t pattern)
@@ -756,8 +755,8 @@ static void check_unmet(const weigher_entry *list, size_t n, uint64_t x)
 /* For NaNs, weights of each step and two of the list: the score keeps its content, and so does the list. */
 static void check_list_refused(const weigher_entry *list, size_t n, unsigned number)
 {
-    const uint64_t weights[] = {WEIGHER_NAN, UINT64_MAX, 0xc04b000000000000, 0x4090000000000000, 0, sign, 1, tiny, tiny + 1,
-                                0xc04a800000000000, 0x3fe0000000000000, pattern_of(list[0].x), pattern_of(list[n - 1].x)};
+    const uint64_t weights[] = {WEIGHER_NAN, 0xfff0000000000001, UINT64_MAX, 0xc04b000000000000, 0x4090000000000000, 0, sign, 1, tiny,
+                                tiny + 1, 0xc04a800000000000, 0x3fe0000000000000, pattern_of(list[0].x), pattern_of(list[n - 1].x)};
     uint64_t *score = (uint64_t *)before_end(sizeof *score);
     uint8_t *before = before_end(n * sizeof *list);
     memcpy(before, list, n * sizeof *list);
@@ -772,7 +771,6 @@ static void check_empty_list(void)
 {
     const weigher_entry *list = list_of(0);
     check_scored(list, 0, tiny, tiny_score);
-    check_scored(list, 0, WEIGHER_NAN | 1, WEIGHER_NAN);
     check_unmet(list, 0, first_size);
     check_unmet(list, 0, last_size);
     check_unmet(list, 0, last_size | sign);
@@ -787,7 +785,6 @@ static void check_list(size_t n)
     check_unmet(list, n, tiny - 1);
     check_unmet(list, n, tiny + n);
     check_unmet(list, n, tiny ^ sign);
-    check_scored(list, n, 0xfff0000000000001, WEIGHER_NAN);
 }
 
 /* Entries for weights that no list is for, and one between them. */
@@ -938,6 +935,151 @@ static void check_lists(void)
     check_list_order();
 }
 
+/* NaNs of both signs, with the top fraction bit clear and set, and what each of them gives. */
+static const struct nan_case {
+    uint64_t nan, result;
+} nans[] = {
+    {0x7ff0000000000001, 0x7ff8000000000001},
+    {0xfff0000000000001, 0xfff8000000000001},
+    {0x7ff8000000000003, 0x7ff8000000000003},
+    {0xfff8000000000003, 0xfff8000000000003},
+    {0x7ff8000000000000, 0x7ff8000000000000},
+    {0xfff8000000000000, 0xfff8000000000000},
+    {0xfff0000080000000, 0xfff8000080000000},
+    {0x7ff0000100000000, 0x7ff8000100000000},
+    {0x7ff4000000000000, 0x7ffc000000000000},
+    {0xfff123456789abcd, 0xfff923456789abcd},
+    {0x7ff7ffffffffffff, 0x7fffffffffffffff},
+    {0xffffffffffffffff, 0xffffffffffffffff},
+};
+static const size_t nan_count = sizeof nans / sizeof nans[0];
+
+/* The answer of one result to a frame, taken whole and handed on byte by byte. */
+static void check_answer(const uint8_t *bytes, size_t n, uint64_t result)
+{
+    uint8_t buffer[WEIGHER_ANSWER_ROOM], want[DIRECTED_ANSWER];
+    put_answer(want, result);
+    weigher_taken taken = weigher_take(weigher_fresh(), bytes, n, buffer, sizeof buffer);
+    CHECK(taken.used == n && taken.len == sizeof want && taken.refusal == 0 && memcmp(buffer, want, sizeof want) == 0);
+    memset(buffer, 0xee, sizeof buffer);
+    weigher_state state = weigher_fresh();
+    for (size_t i = 0; i < n; i++) {
+        weigher_handed_on handed = weigher_hand_on(state, bytes + i, 1, buffer, sizeof buffer);
+        CHECK(handed.used == 1 && handed.len == (i + 1 < n ? 0 : sizeof want) && handed.refusal == 0);
+        state = handed.state;
+    }
+    CHECK(memcmp(buffer, want, sizeof want) == 0 && same(state, after(1, 0)));
+}
+
+static void check_scaled_nan(uint64_t nan, uint64_t result)
+{
+    static const int32_t powers[] = {INT32_MIN, -2099, -1074, -1, 0, 1, 1023, 2099, INT32_MAX};
+    for (size_t i = 0; i < sizeof powers / sizeof powers[0]; i++)
+        CHECK(weigher_scale(nan, powers[i]) == result);
+}
+
+/* Good lists, one that is too long, one out of order, and one with the same NaN. */
+static void check_nan_by_lists(uint64_t nan, uint64_t result)
+{
+    weigher_entry *list = list_of(WEIGHER_LONGEST_LIST + 1);
+    check_scored(list, 0, nan, result);
+    check_scored(list, 1, nan, result);
+    check_scored(list, WEIGHER_LONGEST_LIST, nan, result);
+    uint64_t *score = (uint64_t *)before_end(sizeof *score);
+    CHECK(weigher_score_with(list, WEIGHER_LONGEST_LIST + 1, nan, score) == WEIGHER_LIST_TOO_LONG);
+    list[1] = list[0];
+    CHECK(weigher_score_with(list, 2, nan, score) == WEIGHER_BAD_ENTRY);
+    list[0] = entry_of(nan, one, 0);
+    CHECK(weigher_score_with(list, 1, nan, score) == WEIGHER_BAD_ENTRY);
+    CHECK(untouched((uint8_t *)score, sizeof *score));
+}
+
+static void check_nan(uint64_t nan, uint64_t result)
+{
+    uint8_t bytes[sizeof frame];
+    memcpy(bytes, frame, 4);
+    put(bytes + 4, nan);
+    check_answer(bytes, sizeof bytes, result);
+    CHECK(weigher_score(nan) == result);
+    CHECK(weigher_round(nan) == result);
+    CHECK(weigher_floor(nan) == result);
+    check_scaled_nan(nan, result);
+    check_nan_by_lists(nan, result);
+}
+
+/* A frame of kind 2 with one triple. */
+enum { TRIPLE = 28 };
+
+static void put_triple(uint8_t *bytes, const uint64_t *operands)
+{
+    static const uint8_t head[] = {0x00, 0x1a, 0x01, 0x02};
+    memcpy(bytes, head, sizeof head);
+    for (size_t i = 0; i < 3; i++)
+        put(bytes + 4 + 8 * i, operands[i]);
+}
+
+/* By the calls and by frames, and refused with a byte that is no direction. */
+static void check_nan_sum(const uint64_t *operands, uint64_t want)
+{
+    const uint64_t a = operands[0], b = operands[1], c = operands[2], kept = 5;
+    uint64_t result = kept;
+    uint8_t triple[TRIPLE], directed[DIRECTED];
+    CHECK(weigher_fused_in(4, a, b, c, &result) == WEIGHER_BAD_DIRECTION && result == kept);
+    put_directed(directed, 4, operands);
+    check_refused_frame(directed, DIRECTED, WEIGHER_BAD_DIRECTION);
+    for (unsigned direction = 0; direction <= 3; direction++) {
+        CHECK(weigher_fused_in((uint8_t)direction, a, b, c, &result) == 0 && result == want);
+        put_directed(directed, (uint8_t)direction, operands);
+        check_answer(directed, DIRECTED, want);
+    }
+    CHECK(weigher_fused(a, b, c) == want);
+    put_triple(triple, operands);
+    check_answer(triple, TRIPLE, want);
+}
+
+/* Every triple with a NaN in one place, in two, or in all: the first of them is the one that counts. */
+static void check_nan_sums(void)
+{
+    static const uint64_t others[] = {0x0000000000000000, 0x8000000000000000, 0x3ff0000000000000, 0x7ff0000000000000, 0xfff0000000000000};
+    uint64_t values[sizeof nans / sizeof nans[0] + sizeof others / sizeof others[0]];
+    const size_t count = sizeof values / sizeof values[0];
+    for (size_t i = 0; i < count; i++)
+        values[i] = i < nan_count ? nans[i].nan : others[i - nan_count];
+    for (size_t i = 0; i < count * count * count; i++) {
+        const size_t a = i / count / count, b = i / count % count, c = i % count;
+        const size_t first = a < nan_count ? a : b < nan_count ? b : c;
+        const uint64_t operands[] = {values[a], values[b], values[c]};
+        if (first < nan_count)
+            check_nan_sum(operands, nans[first].result);
+    }
+}
+
+/* 0 * infinity and infinity - infinity without a NaN. */
+static void check_invalid_sums(void)
+{
+    static const uint64_t invalid[][3] = {
+        {0x0000000000000000, 0x7ff0000000000000, 0x3ff0000000000000},
+        {0x7ff0000000000000, 0x8000000000000000, 0x3ff0000000000000},
+        {0x8000000000000000, 0xfff0000000000000, 0x7ff0000000000000},
+        {0xfff0000000000000, 0x0000000000000000, 0x0000000000000000},
+        {0x7ff0000000000000, 0x3ff0000000000000, 0xfff0000000000000},
+        {0x3ff0000000000000, 0xfff0000000000000, 0x7ff0000000000000},
+        {0xfff0000000000000, 0xbff0000000000000, 0xfff0000000000000},
+        {0x7ff0000000000000, 0xfff0000000000000, 0x7ff0000000000000},
+    };
+    CHECK(WEIGHER_NAN == 0x7ff8000000000000);
+    for (size_t i = 0; i < sizeof invalid / sizeof invalid[0]; i++)
+        check_nan_sum(invalid[i], WEIGHER_NAN);
+}
+
+static void check_nans(void)
+{
+    for (size_t i = 0; i < nan_count; i++)
+        check_nan(nans[i].nan, nans[i].result);
+    check_nan_sums();
+    check_invalid_sums();
+}
+
 int main(void)
 {
     CHECK(same(weigher_fresh(), state_of(0)));
@@ -952,5 +1094,6 @@ int main(void)
     check_directions();
     check_reports();
     check_lists();
+    check_nans();
     return 0;
 }

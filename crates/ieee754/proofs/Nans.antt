@@ -11,7 +11,7 @@ use lib.Ieee.Bits.{ofBits-toBits, nanBits-is, nanBits-above}
 use Rattle.rounding.specs.declared.Direction.{Direction}
 use Rattle.rounding.specs.declared.Direction.the-variants.{Nearest, Down}
 use Rattle.ieee754.specs.Operations.{Product, invalid, infinite, exactly, product, plus, fusedMultiplyAdd, roundToIntegral, scaleB, quiet, firstNan, fusedBits, roundBits, floorBits, scaleBits}
-use Rattle.ieee754.specs.Nans.{Returned, Quiets, SameFloats}
+use Rattle.ieee754.specs.Nans.{Quiets, SameFloats}
 use Rattle.ieee754.proofs.Fits.{fused-fits, integral-fits, scale-fits}
 
 -- ---- which patterns are a NaN's
