@@ -15,10 +15,16 @@
  * result its text, nor a score the list of entries.
  *
  * Floats are binary64, passed and returned as their 64-bit patterns; those of
- * entries are doubles. Every pattern and every double is taken, and each NaN
- * result is WEIGHER_NAN. Results are rounded to nearest, ties to even, but for
- * those of weigher_fused_in and of frames of kind 3, which are given a
- * direction; a constant is never rounded. */
+ * entries are doubles. Every pattern and every double is taken. Results are
+ * rounded to nearest, ties to even, but for those of weigher_fused_in and of
+ * frames of kind 3, which are given a direction; a constant is never rounded.
+ *
+ * A NaN operand is the result, in calls and in frames alike, with its sign and
+ * its payload, the low 51 bits, kept and its top fraction bit, bit 51, set: so
+ * an unreadable weight hands the reason in its low bits on to its score. Of
+ * several NaNs it is the first among a, b, c. Patterns are integers, so that no
+ * bit of a NaN is lost on the way. An invalid operation without a NaN operand,
+ * 0 * infinity or infinity - infinity, gives WEIGHER_NAN. */
 #ifndef WEIGHER_H
 #define WEIGHER_H
 
@@ -180,7 +186,7 @@ weigher_screened weigher_screening(const uint8_t *payload, size_t payload_len);
 
 /* ---- The numeric functions */
 
-/* The pattern of every NaN that they return. */
+/* The NaN of an invalid operation without a NaN operand. */
 #define WEIGHER_NAN UINT64_C(0x7ff8000000000000)
 
 /* 2^x - 1, the score of the weight x. */
@@ -232,8 +238,8 @@ enum {
  * may be written.
  *
  * Returns 0, and *result is the pattern of the sum. Or returns
- * WEIGHER_BAD_DIRECTION, where the direction is above 3, and *result keeps its
- * content. */
+ * WEIGHER_BAD_DIRECTION, where the direction is above 3, with a NaN too, and
+ * *result keeps its content. */
 uint8_t weigher_fused_in(uint8_t direction, uint64_t a, uint64_t b, uint64_t c,
                          uint64_t *result);
 

@@ -11,11 +11,14 @@ static void numeric(void)
 {
     SHOW(weigher_score(0xc04b000000000000)); /* -54 */
     SHOW(weigher_score(0x3970000000000000)); /* 2^-104 */
-    SHOW(weigher_score(0xfff0000000000001)); /* a NaN */
+    SHOW(weigher_score(0xfff0000000000001)); /* a NaN with the reason 1 in its low bits */
 
     /* 2^-104, which a product rounded before the sum loses */
     SHOW(weigher_fused(0x3ff0000000000001, 0x3ff0000000000001, 0xbff0000000000002));
     SHOW(weigher_fused(0x4000000000000000, 0x4008000000000000, 0x3ff0000000000000)); /* 2 * 3 + 1 */
+    SHOW(weigher_fused(0x4000000000000000, 0x7ff8000000000003, 0xfff0000000000001)); /* the first of two NaNs */
+    SHOW(weigher_fused(0x0000000000000000, 0x7ff0000000000000, 0xfff0000000000001)); /* 0 * infinity and a NaN */
+    SHOW(weigher_fused(0x0000000000000000, 0x7ff0000000000000, 0x3ff0000000000000)); /* 0 * infinity */
 
     SHOW(weigher_round(0x4004000000000000)); /* 2.5 */
     SHOW(weigher_round(0xbfe0000000000000)); /* -0.5 */
@@ -68,6 +71,7 @@ static void lists(void)
     show_score_with("of 2^-60 by an empty list", NULL, 0, 0x3c30000000000000);
     show_score_with("of 2^-60 by its entry", list, 3, 0x3c30000000000000);
     show_score_with("of 1, whose entry is never met", list, 3, 0x3ff0000000000000);
+    show_score_with("of a NaN", list, 3, 0xfff0000000000001);
     show_score_with("by a list that is too long", long_list, WEIGHER_LONGEST_LIST + 1, 0x3c30000000000000);
     show_score_with("by a list out of order", turned, 2, 0x3c30000000000000);
 }

@@ -1,6 +1,6 @@
 /* Scores the match weights of a few records and lists them by their scores, the greatest first. Equal scores keep the order of the list,
- * and a record whose weight is a NaN comes last, without a place. Then the same with exceptions of the user's own, which part two records
- * that had one score. In the repository's root:
+ * and a record whose weight could not be read comes last, with the reason and without a place. Then the same with exceptions of the user's
+ * own, which part two records that had one score. In the repository's root:
  *
  *     make archive
  *     cc -I include -o target/rank examples/c/rank.c target/staticlib/libweigher.a
@@ -35,6 +35,18 @@ static double value(uint64_t bits)
     double x;
     memcpy(&x, &bits, sizeof x);
     return x;
+}
+
+/* A weight that could not be read: a NaN with the reason's number in its low bits. */
+static double unreadable(uint64_t reason)
+{
+    return value(WEIGHER_NAN | reason);
+}
+
+/* The score of such a weight has the same low bits, 51 of them. */
+static uint64_t reason(double score)
+{
+    return pattern(score) & 0x0007ffffffffffff;
 }
 
 static double built_in_score(double weight)
@@ -76,7 +88,7 @@ static int by_score(const void *first, const void *second)
 static void print_record(size_t place, const struct record *record)
 {
     if (isnan(record->score))
-        printf(" - %016" PRIx64 " %10s  %s\n", pattern(record->score), "missing", record->name);
+        printf(" - %016" PRIx64 "   reason %" PRIu64 "  %s\n", pattern(record->score), reason(record->score), record->name);
     else
         printf("%2zu %016" PRIx64 " %10.3f  %s\n", place, pattern(record->score), record->score, record->name);
 }
@@ -97,7 +109,7 @@ int main(void)
         {.name = "baptism of Anne Pell, 1733", .weight = 1.0000000000000002},
         {.name = "burial of Ann Pell, 1731", .weight = -1.5},
         {.name = "marriage of Ann Pell, 1752", .weight = 12.25},
-        {.name = "baptism of Amy Bell, page torn", .weight = NAN},
+        {.name = "baptism of Amy Bell, page torn", .weight = unreadable(3)},
         {.name = "baptism of John Hull, 1731", .weight = -60.0},
         {.name = "burial of Mary Cole, 1702", .weight = -54.0},
         {.name = "marriage of A. Pell, 1750", .weight = 0.0},

@@ -1,16 +1,16 @@
 //! Scores the match weights of a few records and lists them by their scores, the greatest first. Equal scores keep the order of the list,
-//! and a record whose weight is a NaN comes last, without a place. Then the same with exceptions of the user's own, which part two records
-//! that had one score.
+//! and a record whose weight could not be read comes last, with the reason and without a place. Then the same with exceptions of the user's
+//! own, which part two records that had one score.
 
 use std::cmp::Ordering;
-use weigher::{Entry, Refusal, constant, score, score_with};
+use weigher::{Entry, Refusal, bits, constant, score, score_with};
 
 const RECORDS: [(&str, f64); 11] = [
     ("baptism of Ann Pell, 1731", 1.0),
     ("baptism of Anne Pell, 1733", 1.0000000000000002),
     ("burial of Ann Pell, 1731", -1.5),
     ("marriage of Ann Pell, 1752", 12.25),
-    ("baptism of Amy Bell, page torn", f64::NAN),
+    ("baptism of Amy Bell, page torn", unreadable(3)),
     ("baptism of John Hull, 1731", -60.0),
     ("burial of Mary Cole, 1702", -54.0),
     ("marriage of A. Pell, 1750", 0.0),
@@ -18,6 +18,16 @@ const RECORDS: [(&str, f64); 11] = [
     ("burial of A. Bell, 1791", 1.3010426069826053e-18),
     ("baptism of Ann Ball, 1730", -8.673617379884035e-19),
 ];
+
+/// A weight that could not be read: a NaN with the reason's number in its low bits.
+const fn unreadable(reason: u64) -> f64 {
+    f64::from_bits(bits::NAN | reason)
+}
+
+/// The score of such a weight has the same low bits, 51 of them.
+fn reason(score: f64) -> u64 {
+    score.to_bits() & 0x0007ffffffffffff
+}
 
 /// x, hi and lo, in the order of x. lo is more than half of a spacing, so that the scores are the floats behind hi.
 const OWN_LIST: [[&str; 3]; 2] = [
@@ -52,7 +62,7 @@ fn rank(score: impl Fn(f64) -> Result<f64, Refusal>) -> Result<(), Refusal> {
     for (place, (name, score)) in (1..).zip(scored) {
         let pattern = score.to_bits();
         if score.is_nan() {
-            println!(" - {pattern:016x} {:>10}  {name}", "missing");
+            println!(" - {pattern:016x}   reason {}  {name}", reason(score));
         } else {
             println!("{place:2} {pattern:016x} {score:10.3}  {name}");
         }

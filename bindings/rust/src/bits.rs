@@ -1,8 +1,11 @@
 //! The numeric functions and constants as patterns: the bits of an `f64` as a `u64`. A direction is its byte, and an entry has floats.
+//!
+//! A NaN operand is the result, with its sign and payload kept and its top fraction bit set; of several NaNs it is the first among a, b
+//! and c.
 
 use crate::{Entry, Refusal, ffi};
 
-/// The pattern of every NaN that a function returns.
+/// The NaN of an invalid operation without a NaN operand: 0 × infinity, or infinity - infinity.
 pub const NAN: u64 = 0x7ff8000000000000;
 
 /// 2^x - 1, the score of the weight x.
@@ -10,7 +13,7 @@ pub const NAN: u64 = 0x7ff8000000000000;
 /// ```
 /// use weigher::bits;
 /// assert_eq!(bits::score(0x3970000000000000), 0x39662e42fefa39ef);
-/// assert_eq!(bits::score(0xfff0000000000001), bits::NAN);
+/// assert_eq!(bits::score(0xfff0000000000001), 0xfff8000000000001); // a NaN
 /// ```
 pub fn score(x: u64) -> u64 {
     ffi::weigher_score(x)
@@ -24,7 +27,7 @@ pub fn score(x: u64) -> u64 {
 /// let mut list = [Entry { x: f64::from_bits(x), hi: 1.0, lo: 0.5 }];
 /// assert_eq!(bits::score_with(&list, x), Ok(0x3ff8000000000000)); // 1.5
 /// assert_eq!(bits::score_with(&list, x + 1), Ok(bits::score(x + 1)));
-/// assert_eq!(bits::score_with(&list, 0xfff0000000000001), Ok(bits::NAN));
+/// assert_eq!(bits::score_with(&list, 0xfff0000000000001), Ok(0xfff8000000000001)); // a NaN
 /// list[0].lo = f64::NAN;
 /// assert_eq!(bits::score_with(&list, x + 1), Err(Refusal::BadEntry));
 /// ```
@@ -38,7 +41,12 @@ pub fn score_with(list: &[Entry], x: u64) -> Result<u64, Refusal> {
 /// a × b + c, rounded once to nearest, ties to even.
 ///
 /// ```
-/// assert_eq!(weigher::bits::fused(1, 0x3fe0000000000000, 1), 2); // 2^-1074 × 0.5 + 2^-1074
+/// use weigher::bits;
+/// let (half, infinity) = (0x3fe0000000000000, 0x7ff0000000000000);
+/// assert_eq!(bits::fused(1, half, 1), 2); // 2^-1074 × 0.5 + 2^-1074
+/// assert_eq!(bits::fused(0, infinity, half), bits::NAN);
+/// assert_eq!(bits::fused(0, infinity, 0xfff0000000000003), 0xfff8000000000003); // a NaN
+/// assert_eq!(bits::fused(half, 0x7ff8000000000002, 0xfff0000000000003), 0x7ff8000000000002); // the first of two
 /// ```
 pub fn fused(a: u64, b: u64, c: u64) -> u64 {
     ffi::weigher_fused(a, b, c)
@@ -52,7 +60,8 @@ pub fn fused(a: u64, b: u64, c: u64) -> u64 {
 /// let half = 0x3fe0000000000000;
 /// assert_eq!(bits::fused_in(Direction::Down.byte(), 1, half, 0), Ok(0)); // 2^-1074 × 0.5
 /// assert_eq!(bits::fused_in(Direction::Up.byte(), 1, half, 0), Ok(1));
-/// assert_eq!(bits::fused_in(4, 1, half, 0), Err(Refusal::BadDirection));
+/// assert_eq!(bits::fused_in(Direction::Up.byte(), 1, half, 0xfff0000000000001), Ok(0xfff8000000000001)); // a NaN
+/// assert_eq!(bits::fused_in(4, 1, half, 0xfff0000000000001), Err(Refusal::BadDirection));
 /// ```
 pub fn fused_in(direction: u8, a: u64, b: u64, c: u64) -> Result<u64, Refusal> {
     let mut result = 0;
@@ -64,7 +73,9 @@ pub fn fused_in(direction: u8, a: u64, b: u64, c: u64) -> Result<u64, Refusal> {
 /// The nearest whole number, a tie to the even one. A zero result has the sign of x.
 ///
 /// ```
-/// assert_eq!(weigher::bits::round(0xbfe0000000000000), 0x8000000000000000); // -0.5
+/// use weigher::bits;
+/// assert_eq!(bits::round(0xbfe0000000000000), 0x8000000000000000); // -0.5
+/// assert_eq!(bits::round(0x7ff0000000000003), 0x7ff8000000000003); // a NaN
 /// ```
 pub fn round(x: u64) -> u64 {
     ffi::weigher_round(x)
@@ -73,7 +84,9 @@ pub fn round(x: u64) -> u64 {
 /// The greatest whole number not above x. The sign of a zero is kept.
 ///
 /// ```
-/// assert_eq!(weigher::bits::floor(0xbfe0000000000000), 0xbff0000000000000); // -0.5
+/// use weigher::bits;
+/// assert_eq!(bits::floor(0xbfe0000000000000), 0xbff0000000000000); // -0.5
+/// assert_eq!(bits::floor(0x7ff0000000000003), 0x7ff8000000000003); // a NaN
 /// ```
 pub fn floor(x: u64) -> u64 {
     ffi::weigher_floor(x)
@@ -82,7 +95,9 @@ pub fn floor(x: u64) -> u64 {
 /// x × 2^n, rounded once. A zero or infinite result has the sign of x.
 ///
 /// ```
-/// assert_eq!(weigher::bits::scale(0x3ff8000000000000, -1074), 2); // 1.5, a tie between 1 and 2 times 2^-1074
+/// use weigher::bits;
+/// assert_eq!(bits::scale(0x3ff8000000000000, -1074), 2); // 1.5, a tie between 1 and 2 times 2^-1074
+/// assert_eq!(bits::scale(0x7ff0000000000003, -1074), 0x7ff8000000000003); // a NaN
 /// ```
 pub fn scale(x: u64, n: i32) -> u64 {
     ffi::weigher_scale(x, n)

@@ -26,7 +26,9 @@ pub use stream::{Stream, serve};
 /// assert_eq!(weigher::score(3.0), 7.0);
 /// assert_eq!(weigher::score(-60.0), -1.0);
 /// assert_eq!(weigher::score(1024.0), f64::INFINITY);
-/// assert!(weigher::score(f64::NAN).is_nan());
+///
+/// let unreadable = f64::from_bits(0x7ff8000000000003); // a NaN with a reason, 3
+/// assert_eq!(weigher::score(unreadable).to_bits(), 0x7ff8000000000003);
 /// ```
 pub fn score(x: f64) -> f64 {
     f64::from_bits(bits::score(x.to_bits()))
@@ -76,6 +78,15 @@ pub fn score_with(list: &[Entry], x: f64) -> Result<f64, Refusal> {
 /// let c = -(1.0 + 2.0 * f64::EPSILON);
 /// assert_eq!(weigher::fused(a, a, c), f64::EPSILON * f64::EPSILON);
 /// assert_eq!(a * a + c, 0.0); // the product was rounded before the sum
+/// ```
+///
+/// The first NaN among a, b and c is the sum, also for 0 × infinity:
+///
+/// ```
+/// let [first, second] = [0x7ff8000000000003, 0x7ff8000000000005].map(f64::from_bits);
+/// assert_eq!(weigher::fused(0.5, first, second).to_bits(), first.to_bits());
+/// assert_eq!(weigher::fused(0.0, f64::INFINITY, second).to_bits(), second.to_bits());
+/// assert_eq!(weigher::fused(0.0, f64::INFINITY, 0.5).to_bits(), weigher::bits::NAN);
 /// ```
 pub fn fused(a: f64, b: f64, c: f64) -> f64 {
     f64::from_bits(bits::fused(a.to_bits(), b.to_bits(), c.to_bits()))

@@ -152,6 +152,7 @@ fn infinities_and_nans() {
     check_both([ONE, ONE, INFINITY], [INFINITY; 4]);
     check_both([INFINITY, TWO, LARGEST], [INFINITY; 4]);
     check([INFINITY, ONE, minus(INFINITY)], [bits::NAN; 4]);
-    check([0, INFINITY, 0xfff8000000000007], [bits::NAN; 4]);
-    check([ONE, ONE, 0x7ff0000000000001], [bits::NAN; 4]);
+    check([0, INFINITY, ONE], [bits::NAN; 4]);
+    check([0, INFINITY, 0xfff8000000000007], [0xfff8000000000007; 4]);
+    check([ONE, ONE, 0x7ff0000000000001], [0x7ff8000000000001; 4]);
 }

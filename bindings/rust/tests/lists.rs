@@ -398,20 +398,6 @@ fn neighbours_ascend() {
     check_met(&list, above, 2.5);
 }
 
-/// With a good list; a bad one is refused for a NaN too.
-#[test]
-fn weights_that_are_nans() {
-    for nan in [0x7ff0000000000001, 0xfff8000000000000, u64::MAX] {
-        for len in [0, 1, 256] {
-            assert_eq!(scored(&list_of(len), f64::from_bits(nan)), Ok(bits::NAN));
-        }
-        let refused = Err(Refusal::ListTooLong);
-        assert_eq!(bits::score_with(&list_of(257), nan), refused);
-        let refused = Err(Refusal::BadEntry);
-        assert_eq!(bits::score_with(&list_for(&[0.0]), nan), refused);
-    }
-}
-
 /// Each call goes by the list as it is then.
 #[test]
 fn a_revised_list() {
