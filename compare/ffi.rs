@@ -1,4 +1,4 @@
-//! The functions of C: those of include/weigher.h, the fma that the score calls, the platform's fma in each direction, ldexp, ldexpf,
+//! The functions of C: those of include/weigher.h, the fma that the score calls, the machine's fma in each direction, ldexp, ldexpf,
 //! strtod and %a, and musl's fma where it is linked.
 //!
 //! Nothing checks these declarations against the C side. Those that take and return plain numbers are safe to call; those that are lent

@@ -3,6 +3,7 @@
 use ffi::{Counts, State};
 
 use crate::book::{Book, Call, Kind, Reply, Service};
+use crate::nans::{Kinds, Sets};
 use crate::random::Random;
 use crate::service::{self, FLOAT, LONGEST_BODY, Operations};
 use crate::source::Source;
@@ -24,6 +25,10 @@ const DIRECTED: &str = "nearest|toward zero|up|down|11, direction byte alone|11,
 /// What may come of a frame of version 1 and kind 4 that is not too long: the numbers of the report, or refusal 5.
 const REPORTED: &str = "none counted|some counted|total alone at its end|accepted and total at their ends|refused and total at their ends|all at their ends|5";
 
+/// The least count of NaN weights of each kind, and of each set of NaN operands of kinds 2 and 3 with a first one of each kind, for each
+/// thousand lists.
+const FLOOR_OF_NANS: u64 = 10;
+
 /// How much further a book may have counted than a number at its end shows.
 const FURTHER: [u128; 4] = [0, 1, 1 << 64, 1 << 100];
 
@@ -40,7 +45,7 @@ pub fn compare(thousands: u64) -> bool {
     for number in 1..=thousands * 1000 {
         lists.run(number);
     }
-    let good = lists.print();
+    let good = lists.print(thousands * FLOOR_OF_NANS);
     payloads::compare(thousands) && good
 }
 
@@ -56,6 +61,15 @@ struct Lists {
     directed: Tally,
     reported: Tally,
     ended: Tally,
+    nans: Nans,
+}
+
+/// The NaNs of answered frames of kinds 1, 2 and 3.
+#[derive(Default)]
+struct Nans {
+    weights: Kinds,
+    triples: Sets,
+    directed: Sets,
 }
 
 impl Lists {
@@ -90,6 +104,7 @@ impl Lists {
                 "counts that a call brought to their end",
                 "accepted|refused|total",
             ),
+            nans: Nans::default(),
         }
     }
 
@@ -155,7 +170,8 @@ impl Lists {
         }
     }
 
-    /// The frames of kinds 3 and 4 among the bytes that were held before a call and those that it moved, and the call's answers.
+    /// The frames of kinds 3 and 4, and the NaNs of those that are answered, among the bytes that were held before a call and those that it
+    /// moved, and the call's answers.
     fn tally_frames(&mut self, bytes: &[u8], answers: &[u8]) {
         for (body, answer) in service::bodies(bytes).zip(service::bodies(answers)) {
             match body {
@@ -163,6 +179,9 @@ impl Lists {
                 [1, 3, payload @ ..] => self.directed.count(directed_outcome(payload)),
                 [1, 4, ..] => self.reported.count(reported_outcome(&answer[2..])),
                 _ => {}
+            }
+            if answer[1] == 0 {
+                self.nans.count(body);
             }
         }
     }
@@ -180,7 +199,8 @@ impl Lists {
         }
     }
 
-    fn print(&self) -> bool {
+    /// Prints the counts; false where there was a mismatch, an outcome never came, or a count of NaNs is under the floor.
+    fn print(&self, floor: u64) -> bool {
         let tallies = [
             &self.states,
             &self.take,
@@ -192,7 +212,41 @@ impl Lists {
             &self.ended,
         ];
         let reached = tallies.map(Tally::print);
-        self.mismatches.print() && !reached.contains(&false)
+        let enough = self.nans.print(floor);
+        self.mismatches.print() && !reached.contains(&false) && enough
+    }
+}
+
+impl Nans {
+    fn count(&mut self, body: &[u8]) {
+        match body {
+            [1, 1, weights @ ..] => {
+                for x in service::patterns(weights) {
+                    self.weights.count(x);
+                }
+            }
+            [1, 2, triples @ ..] => count_triples(&mut self.triples, triples),
+            [1, 3, _, triples @ ..] => count_triples(&mut self.directed, triples),
+            _ => {}
+        }
+    }
+
+    fn print(&self, floor: u64) -> bool {
+        println!("NaNs of kind 1");
+        let weights = self.weights.print("x", floor);
+        println!("NaNs of kind 2");
+        let triples = self.triples.print(floor);
+        println!("NaNs of kind 3");
+        let directed = self.directed.print(floor);
+        weights && triples && directed
+    }
+}
+
+fn count_triples(sets: &mut Sets, triples: &[u8]) {
+    let floats = service::patterns(triples);
+    let (triples, _) = floats.as_chunks();
+    for triple in triples {
+        sets.count(*triple);
     }
 }
 

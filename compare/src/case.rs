@@ -4,10 +4,8 @@ use std::fmt;
 
 use ffi::Direction;
 
+use crate::values::UNTOUCHED;
 use crate::{machine, rust};
-
-/// What stands for the weigher's answer where it refuses a direction: a NaN that no operation gives.
-const REFUSED: u64 = 0x7fffffffffffffff;
 
 /// An operation with its operands. Floats are bit patterns.
 #[derive(Clone, Copy)]
@@ -30,14 +28,15 @@ impl Case {
         Case::FastFused(a, b, c)
     }
 
+    /// The weigher's answer, or `UNTOUCHED` where it refuses the direction.
     pub fn weigher(self) -> u64 {
         match self {
             Case::Fused(a, b, c) => ffi::weigher_fused(a, b, c),
             Case::FusedIn(direction, a, b, c) => {
-                let mut result = REFUSED;
+                let mut result = UNTOUCHED;
                 match ffi::fused_in(direction as u8, a, b, c, &mut result) {
                     0 => result,
-                    _ => REFUSED,
+                    _ => UNTOUCHED,
                 }
             }
             Case::FastFused(a, b, c) => ffi::fast_fused(a, b, c),
@@ -48,7 +47,7 @@ impl Case {
         }
     }
 
-    /// The machine's answer, or the Rust exp2m1's.
+    /// The machine's answer, its NaNs by nan.rs, or the Rust exp2m1's.
     pub fn reference(self) -> u64 {
         match self {
             Case::Fused(a, b, c) | Case::FastFused(a, b, c) => machine::fused(a, b, c),

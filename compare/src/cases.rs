@@ -1,7 +1,6 @@
 //! The cases of each operation: edges, and random ones of several kinds.
 
 use crate::case::Case;
-use crate::machine;
 use crate::random::Random;
 use crate::values::{FRACTION, SIGN, assemble, beside, both_signs, float, special};
 
@@ -211,8 +210,8 @@ fn cancelling(random: &mut Random) -> (u64, u64, u64) {
     let exponent = random.between(-1080, 1022);
     let (first, second) = split(random, exponent);
     let (a, b) = (float(random, first), float(random, second));
-    let product = machine::pattern(f64::from_bits(a) * f64::from_bits(b));
-    (a, b, beside(random, product ^ SIGN, 4))
+    let product = f64::from_bits(a) * f64::from_bits(b);
+    (a, b, beside(random, (-product).to_bits(), 4))
 }
 
 /// A product at a tie, with nothing, little or half a unit added; a unit beside a tie it is no tie.

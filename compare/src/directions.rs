@@ -20,10 +20,11 @@ const INFINITY: u64 = 0x7ff0000000000000;
 const LEFT: u64 = 0x0123456789abcdef;
 
 /// Operands for the direction bytes that are refused.
-const REFUSED: [Three; 3] = [
+const REFUSED: [Three; 4] = [
     (0, 0, 0),
     (0x3ff8000000000000, 0x4000000000000000, 0xbff0000000000001),
     (0x7ff0000000000000, 0, 0x7ff8000000000001),
+    (0xfff0000000000001, 0x7ff8000000000002, 0xfff0000000000003),
 ];
 
 /// The least count of each kind and way among the edges, and among a million random operands.

@@ -1,9 +1,11 @@
 //! Frames for the service: at the bounds of each refusal, with reports among them, and random ones.
 
+use std::iter;
+
 use crate::cases::{directed_operands, fused_operands};
 use crate::random::Random;
-use crate::score;
 use crate::service::{FLOAT, LONGEST_BODY};
+use crate::{nans, score};
 
 /// What a frame announces: the length of its body and the body's first bytes, which are the version, the kind and, of kind 3, the direction.
 #[derive(Clone, Copy)]
@@ -120,6 +122,9 @@ const REPORTS: [Header; 15] = [
 /// The bytes of a triple.
 const TRIPLE: usize = 3 * FLOAT;
 
+/// The most triples of a frame.
+const MOST_TRIPLES: usize = 21;
+
 /// The longest body that the length bytes can announce.
 const LONGEST: usize = 65_535;
 
@@ -140,6 +145,29 @@ pub fn reports(random: &mut Random) -> Vec<u8> {
     of_headers(&REPORTS, random)
 }
 
+/// NaNs of each kind as weights and, by kind 2 and in each direction, at each place of a triple, alone and together.
+pub fn of_nans(random: &mut Random) -> Vec<u8> {
+    let fronts = [&[1, 2][..], &[1, 3, 0], &[1, 3, 1], &[1, 3, 2], &[1, 3, 3]];
+    let triples = nans::of_each_set(random);
+    with_triples(&fronts, &triples, random)
+}
+
+/// A few of these: by kind 2 and in one direction, alone.
+pub fn of_few_nans(random: &mut Random) -> Vec<u8> {
+    let triples = nans::alone(random);
+    with_triples(&[&[1, 2], &[1, 3, 3]], &triples, random)
+}
+
+/// A frame of a NaN of each kind, and these triples behind each front.
+fn with_triples(fronts: &[&[u8]], triples: &[[u64; 3]], random: &mut Random) -> Vec<u8> {
+    let mut frames = of_floats(&[1, 1], &nans::of_each_kind(random, 1));
+    for front in fronts {
+        let parts = triples.chunks(MOST_TRIPLES);
+        frames.extend(parts.flat_map(|part| of_floats(front, part.as_flattened())));
+    }
+    frames
+}
+
 fn of_headers(headers: &[Header], random: &mut Random) -> Vec<u8> {
     headers
         .iter()
@@ -154,12 +182,22 @@ pub fn unfinished(random: &mut Random) -> Vec<u8> {
     frame
 }
 
-/// A frame of any length, version and kind, one in eight a report. Most are answered.
+/// A frame of any length, version and kind, one in eight a report, and one in eight with many NaNs. Most are answered.
 pub fn any(random: &mut Random) -> Vec<u8> {
     match random.below(8) {
         0 => report(random),
+        1 => with_nans(random),
         _ => any_but_report(random),
     }
+}
+
+/// A frame of kind 1, 2 or 3 in which about half of the floats are NaNs.
+fn with_nans(random: &mut Random) -> Vec<u8> {
+    let directed = [1, 3, direction(random)];
+    let front = random.pick(&[&[1, 1], &[1, 2], &directed[..]]);
+    let count = 3 * items(MOST_TRIPLES, random);
+    let floats = iter::repeat_with(|| nans::operand(random));
+    of_floats(front, &Vec::from_iter(floats.take(count)))
 }
 
 pub fn report(random: &mut Random) -> Vec<u8> {
@@ -170,10 +208,10 @@ pub fn report(random: &mut Random) -> Vec<u8> {
 pub fn any_but_report(random: &mut Random) -> Vec<u8> {
     match random.below(13) {
         0..4 => frame(2 + items(64, random) * FLOAT, &[1, 1], random),
-        4..7 => frame(2 + items(21, random) * TRIPLE, &[1, 2], random),
+        4..7 => frame(2 + items(MOST_TRIPLES, random) * TRIPLE, &[1, 2], random),
         7..9 => {
             let front = [1, 3, direction(random)];
-            frame(3 + items(21, random) * TRIPLE, &front, random)
+            frame(3 + items(MOST_TRIPLES, random) * TRIPLE, &front, random)
         }
         9 => {
             let version = random.word() as u8;
@@ -207,8 +245,8 @@ pub fn of_floats(front: &[u8], floats: &[u64]) -> Vec<u8> {
     with_length(&body)
 }
 
-fn items(most: i64, random: &mut Random) -> usize {
-    random.between(1, most) as usize
+fn items(most: usize, random: &mut Random) -> usize {
+    random.between(1, most as i64) as usize
 }
 
 /// A frame whose body goes on with random items, the last cut off where the body ends.

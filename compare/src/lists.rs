@@ -4,13 +4,14 @@ use ffi::Entry;
 
 use crate::entries::{self, FAULTS, Fault, KINDS};
 use crate::listed::{self, BAD_ENTRY, LONG_LIST, MOST, Reply};
+use crate::nans::Kinds;
 use crate::random::Random;
 use crate::run::REACH;
 use crate::rust;
 use crate::score::{self, BENCH, is_of_step_5};
 use crate::steps::{self, Step};
 use crate::tally::{Mismatches, Tally};
-use crate::values::{SIGN, UNTOUCHED};
+use crate::values::{SIGN, UNTOUCHED, nan};
 
 /// Lengths that half of the good lists have.
 const LENGTHS: [usize; 6] = [0, 1, 2, 56, 255, MOST];
@@ -27,6 +28,9 @@ const WITH_TABLE: u64 = 100_000;
 /// Weights of each other kind that are scored with a good list, besides those about its entries.
 const OTHERS: usize = 20;
 
+/// The least count of NaNs of each kind, with good lists and with refused ones, for each thousand lists.
+const FLOOR_OF_NANS: u64 = 3000;
+
 const STEPS: &str = "1|2|3|4|5|6|7|8";
 
 /// How a weight may be answered with a good list. hi is an entry's, and the 56 are x of the built-in table.
@@ -39,7 +43,9 @@ pub fn compare(thousands: u64) -> bool {
     for _ in 0..thousands {
         lists.refuse_all();
     }
+    let floor = thousands * FLOOR_OF_NANS;
     let mut reached = lists.refused.print();
+    reached &= lists.refused_nans.print("NaNs among the weights", floor);
     if rust::INSTANCES.is_empty() {
         println!("scores with a list: not compared, the Rust source was not there");
     } else {
@@ -49,6 +55,7 @@ pub fn compare(thousands: u64) -> bool {
         }
         let tallies = [&lists.steps, &lists.lengths, &lists.kinds, &lists.answers];
         reached &= !tallies.map(Tally::print).contains(&false);
+        reached &= lists.nans.print("NaNs among the weights", floor);
     }
     lists.mismatches.print() && reached
 }
@@ -60,10 +67,12 @@ struct Lists {
     edges: Vec<u64>,
     mismatches: Mismatches,
     refused: Tally,
+    refused_nans: Kinds,
     steps: Tally,
     lengths: Tally,
     kinds: Tally,
     answers: Tally,
+    nans: Kinds,
 }
 
 impl Lists {
@@ -78,10 +87,12 @@ impl Lists {
             edges: score::edges(1),
             mismatches: Mismatches::default(),
             refused: Tally::new("refused lists", &refused),
+            refused_nans: Kinds::default(),
             steps: Tally::new("weights with the table of 56 lent, by the step", STEPS),
             lengths: Tally::new("good lists, by their entries", &(lengths + "|another")),
             kinds: Tally::new("good lists, by their x", &kinds),
             answers: Tally::new("weights with a good list, by the step", ANSWERS),
+            nans: Kinds::default(),
         }
     }
 
@@ -116,12 +127,14 @@ impl Lists {
         }
     }
 
-    /// The list must be refused by the number with every weight, x of its entries among them.
+    /// The list must be refused by the number with every weight, NaNs and x of its entries among them.
     fn refuse(&mut self, list: &[Entry], place: usize, number: u8, outcome: &str) {
         self.refused.count(outcome);
         let places = [0, place.saturating_sub(1), place, list.len() - 1];
         let weights = places.map(|place| list[place].x.to_bits());
-        for x in BENCH.into_iter().chain(weights) {
+        let nan = nan(&mut self.random);
+        for x in BENCH.into_iter().chain(weights).chain([nan]) {
+            self.refused_nans.count(x);
             let reply = compare_call(outcome, list, x, &mut self.mismatches);
             if reply != Err(number) {
                 self.mismatches
@@ -174,6 +187,7 @@ impl Lists {
         self.lengths
             .count(if is_fixed { &length } else { "another" });
         for x in self.weights(&entries) {
+            self.nans.count(x);
             let reply = compare_call(kind, list, x, &mut self.mismatches);
             match reply {
                 Ok(score) => self.answers.count(answer(list, x, score)),
@@ -185,7 +199,7 @@ impl Lists {
         }
     }
 
-    /// x of each entry, its neighbours and its negative; edges of the score, weights of step 5, and any.
+    /// x of each entry, its neighbours and its negative; edges of the score, weights of step 5, any, and NaNs.
     fn weights(&mut self, entries: &[Entry]) -> Vec<u64> {
         let of_entries = entries.iter().flat_map(|entry| {
             let x = entry.x.to_bits();
@@ -196,6 +210,7 @@ impl Lists {
             weights.push(self.random.pick(&self.edges));
             weights.push(entries::of_step_5(&mut self.random));
             weights.push(score::weight(&mut self.random));
+            weights.push(nan(&mut self.random));
         }
         weights
     }

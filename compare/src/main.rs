@@ -17,6 +17,8 @@ mod lists;
 mod machine;
 #[cfg(mpfr)]
 mod mpfr;
+mod nan;
+mod nans;
 mod payloads;
 mod random;
 mod reader;

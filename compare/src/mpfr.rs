@@ -7,7 +7,7 @@ use std::mem::MaybeUninit;
 
 use crate::case::Case;
 use crate::random::Random;
-use crate::{machine, run, score};
+use crate::{nan, run, score};
 
 /// MPFR's mpfr_t on a 64-bit Linux.
 #[repr(C)]
@@ -62,5 +62,5 @@ fn exp2m1(x: u64) -> u64 {
         mpfr_clear(number);
         result
     };
-    machine::pattern(result)
+    nan::pattern(&[x], result)
 }

@@ -5,7 +5,7 @@ use crate::cases::{FAST_FUSED, FLOOR, FUSED, ROUND, SCALE};
 use crate::random::Random;
 use crate::steps::Reach;
 use crate::values::SPECIALS;
-use crate::{directions, rust, score};
+use crate::{directions, nans, rust, score};
 
 /// Patterns on each side of a boundary or table entry of the score.
 pub const REACH: i64 = 1000;
@@ -25,6 +25,7 @@ pub fn compare(millions: u64) -> bool {
         good &= compare_operation(operation.name, edges.chain(others));
     }
     good &= directions::compare(millions);
+    good &= nans::compare(millions);
     if rust::INSTANCES.is_empty() {
         println!("score: not compared, the Rust source was not there");
     } else {

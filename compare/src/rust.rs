@@ -7,7 +7,6 @@ use std::{fs, io};
 use exp2m1_recorded::calls::OPERANDS;
 use ffi::Entry;
 
-use crate::machine;
 use crate::score::is_of_step_5;
 
 /// exp2m1 over the machine's fma, the weigher's and musl's. There is none where compare was built without the source.
@@ -80,10 +79,10 @@ pub fn require() -> io::Result<()> {
     Ok(())
 }
 
-/// The Rust's answer on patterns, where there is an instance.
+/// The Rust's answer on patterns, where there is an instance. Its NaNs are its own: x + x.
 pub fn score(x: u64) -> u64 {
     let (_, exp2m1) = INSTANCES[0];
-    machine::pattern(exp2m1(f64::from_bits(x)))
+    exp2m1(f64::from_bits(x)).to_bits()
 }
 
 /// The operands of every fma that exp2m1 calls for these weights; none where there is no instance.

@@ -78,7 +78,7 @@ pub fn step(x: u64) -> Step {
 /// The steps in the order of `Step`, and how many weights must have reached each. The fast phase decides all entries but 20 of the table of
 /// 59, and all but 7 of the table of 93.
 const STEPS: [(&str, u64); 16] = [
-    ("1, NaN", 4),
+    ("1, NaN", 20),
     ("2, x <= -54", 100),
     ("3, x >= 1024", 100),
     ("4, zero", 2),

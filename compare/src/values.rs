@@ -5,6 +5,9 @@ use crate::random::Random;
 pub const SIGN: u64 = 1 << 63;
 pub const FRACTION: u64 = (1 << 52) - 1;
 
+/// The top fraction bit, which quiet NaNs have and signalling ones lack.
+pub const QUIET: u64 = 1 << 51;
+
 /// One of each class: zero, the least subnormal, one, the largest finite, infinity, a quiet NaN.
 pub const CLASSES: [u64; 6] = [
     0,
@@ -69,17 +72,16 @@ pub const SPECIALS: [u64; 48] = [
 
 pub const INFINITIES: [u64; 2] = [0x7ff0000000000000, 0xfff0000000000000];
 
-/// The least NaN, the one that the weigher replies with and the largest, of either sign.
-const NANS: [u64; 6] = [
-    0x7ff0000000000001,
+/// The four kinds of NaNs, by the sign and the top fraction bit, without their payloads. That of a signalling one is not 0, or it would be an
+/// infinity.
+pub const NAN_KINDS: [u64; 4] = [
+    0x7ff0000000000000,
     0x7ff8000000000000,
-    0x7fffffffffffffff,
-    0xfff0000000000001,
+    0xfff0000000000000,
     0xfff8000000000000,
-    0xffffffffffffffff,
 ];
 
-/// What a result holds before a call: a NaN, which no call gives.
+/// What a result holds before a call: a signalling NaN, which no call gives.
 pub const UNTOUCHED: u64 = 0x7ff4eeeeeeeeeeee;
 
 pub fn both_signs(patterns: &[u64]) -> Vec<u64> {
@@ -137,11 +139,22 @@ pub fn special(random: &mut Random) -> u64 {
     }
 }
 
+/// A NaN of any kind.
 pub fn nan(random: &mut Random) -> u64 {
-    match random.below(2) {
-        0 => random.pick(&NANS),
-        _ => random.pick(&INFINITIES) | random.between(1, FRACTION as i64) as u64,
-    }
+    let kind = random.pick(&NAN_KINDS);
+    nan_of(random, kind)
+}
+
+/// A NaN of a kind, whose payload is the least, the largest, one of a few low bits or any.
+pub fn nan_of(random: &mut Random, kind: u64) -> u64 {
+    let least = i64::from(kind & QUIET == 0);
+    let largest = QUIET as i64 - 1;
+    let most = random.pick(&[least, 255, largest]);
+    let payload = match random.below(4) {
+        0 => largest,
+        _ => random.between(least, most),
+    };
+    kind | payload as u64
 }
 
 /// The pattern a few units in the last place from x.

@@ -11,7 +11,7 @@ use crate::random::Random;
 use crate::rust::Function;
 use crate::steps::Reach;
 use crate::values::{CLASSES, SPECIALS, both_signs};
-use crate::{machine, rust, score};
+use crate::{nans, rust, score};
 
 /// An operation, the special values that its edges are made of, and how many random cases follow.
 const PARTS: [(Operation, &[u64], usize); 4] = [
@@ -26,6 +26,9 @@ const DIRECTED: usize = 700;
 
 /// Random weights that follow the edges of the score.
 const WEIGHTS: usize = 15000;
+
+/// NaNs of each kind for each operation on one operand, and for the score.
+const NANS: usize = 12;
 
 /// Weights of each range for which the fast phase does not decide, of which some come twice; and how many there must be.
 const UNDECIDED: u64 = 200;
@@ -45,21 +48,39 @@ pub fn write() -> io::Result<()> {
         cases.extend((0..count).map(|_| (operation.random)(&mut random)));
     }
     cases.extend(directed_cases());
+    cases.extend(nan_cases());
     write_cases(&cases)
 }
 
-/// The same operands in each direction but to nearest, which is fused.
 fn directed_cases() -> Vec<Case> {
     let mut random = Random::new(13);
     // The sign of the first factor adds no product that another does not give.
     let mut operands = directed_edges(&CLASSES, &both_signs(&CLASSES));
     operands.extend((0..DIRECTED).map(|_| directed_operands(&mut random)));
+    in_directions(&operands)
+}
+
+/// The same operands in each direction but to nearest, which is fused.
+fn in_directions(operands: &[(u64, u64, u64)]) -> Vec<Case> {
     let directions = [Direction::TowardZero, Direction::Up, Direction::Down];
     let in_direction = |direction| {
         let operands = operands.iter();
         operands.map(move |&(a, b, c)| Case::FusedIn(direction, a, b, c))
     };
     directions.into_iter().flat_map(in_direction).collect()
+}
+
+/// NaNs of each kind at each place of each operation.
+fn nan_cases() -> Vec<Case> {
+    let mut random = Random::new(16);
+    let operands = nans::of_each_set(&mut random).into_iter();
+    let operands: Vec<(u64, u64, u64)> = operands.map(Into::into).collect();
+    let mut cases = in_directions(&operands);
+    cases.extend(operands.into_iter().map(Case::fused));
+    for x in nans::of_each_kind(&mut random, NANS) {
+        cases.extend([Case::Round(x), Case::Floor(x), nans::scale(&mut random, x)]);
+    }
+    cases
 }
 
 /// The scores, by increasing patterns.
@@ -69,6 +90,7 @@ pub fn write_scores() -> io::Result<()> {
     let mut weights = score::edges(2);
     weights.extend(score::undecided(&mut random, UNDECIDED));
     weights.extend((0..WEIGHTS).map(|_| score::weight(&mut random)));
+    weights.extend(nans::of_each_kind(&mut random, NANS));
     weights.sort_unstable();
     weights.dedup();
     write_lines("score", &weights)
@@ -101,11 +123,7 @@ fn write_lines(name: &str, weights: &[u64]) -> io::Result<()> {
 fn answered(functions: &[Function], name: &str, x: u64) -> Option<String> {
     let (_, function) = functions.iter().find(|function| function.0 == name)?;
     let mut numbers = vec![x];
-    numbers.extend(
-        function(f64::from_bits(x))
-            .into_iter()
-            .map(machine::pattern),
-    );
+    numbers.extend(function(f64::from_bits(x)).into_iter().map(f64::to_bits));
     let numbers: String = numbers.iter().map(|n| format!(" {n:016x}")).collect();
     Some(format!("{name}{numbers}"))
 }

@@ -38,10 +38,9 @@ large x h = omega arith
 pub quiets : Quiets
 unfolding quiet
 quiets x h =
-    let l = above x h in
-    (
+    let l = above x h in (
       record { nan = nan-pattern _ (large x l); sign = omega arith; payload = omega arith; top = omega arith },
-      λ y r. same x y _ _ (parts y) (high y (above y (r .nan)) ∙ ap (λ (s : ℕ). s * 2048 + 2047) (r .sign) ∙ sym (high x l)) (r .top) (r .payload)
+      λ y r. same x y _ _ (parts y) (high y (above y (r .nan)) ∙ ap (λ (s : ℕ). s * 2048 + 2047) (r .sign) ∙ sym (high x l)) (r .top) (r .payload),
     )
   where
     same : (x y a t : ℕ) {p : ℕ} → y ≡ a * 2 ^ 52 + t * 2 ^ 51 + p → a ≡ x / 2 ^ 52 → t ≡ 1 → p ≡ x % 2 ^ 51 → y ≡ x / 2 ^ 52 * 2 ^ 52 + 2 ^ 51 + x % 2 ^ 51
@@ -123,12 +122,12 @@ pub same-floats : SameFloats
 unfolding firstNan fusedBits roundBits floorBits scaleBits
 same-floats = record {
   fused = λ d a b c.
-    let u = ofBits binary64 a in
-    let v = ofBits binary64 b in
-    let w = ofBits binary64 c in
-    let f = fusedMultiplyAdd d u v w in
-    let r = toBits binary64 f in
-    read-first a (b ∷ c ∷ []) r f (fused-nan-x d u v w) (read-first b (c ∷ []) r f (fused-nan-y d u v w) (read-first c [] r f (fused-nan-z d u v w) (ofBits-toBits binary64 f (fused-fits d u v w))));
+      let u = ofBits binary64 a in
+      let v = ofBits binary64 b in
+      let w = ofBits binary64 c in
+      let f = fusedMultiplyAdd d u v w in
+      let r = toBits binary64 f in
+      read-first a (b ∷ c ∷ []) r f (fused-nan-x d u v w) (read-first b (c ∷ []) r f (fused-nan-y d u v w) (read-first c [] r f (fused-nan-z d u v w) (ofBits-toBits binary64 f (fused-fits d u v w))));
   round = read-one (roundToIntegral Nearest) refl (integral-fits Nearest);
   floor = read-one (roundToIntegral Down) refl (integral-fits Down);
   scale = λ x n. read-one (λ v. scaleB Nearest v n) refl (λ v. scale-fits Nearest v n) x;
