@@ -62,6 +62,10 @@ pub fn item_count(kind: u8, n: usize) -> usize
     requires { ⌜ itemsFrom kind ≤ n ⌝ }
     ensures { λ r. ⌜ (r ≡ itemCount kind n) × (8 * r ≤ n) ⌝ }
 {
+    // Apart, so that either is a division by a constant.
+    if kind == SCORES {
+        return n / item_bytes(kind);
+    }
     (n - items_from(kind)) / item_bytes(kind)
 }
 
