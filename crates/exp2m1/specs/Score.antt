@@ -31,7 +31,7 @@ rounded e r =
 unfoldable pub steps : List Entry → ℕ → Float → Float
 steps list ux x =
     let ax = ux % 2 ^ 63 in
-    -- 1. NaN: the one of the floats; scoreWith has its bits
+    -- 1. NaN: a NaN; floats have one, and scoreWith gives its bits
     cond (ltb 0x7ff0000000000000 ax) (bits 0x7ff8000000000000)
     -- 2. x <= -54: -1
     (cond (leb 0xc04b000000000000 ux) (bits 0xbff0000000000000)
@@ -46,7 +46,7 @@ steps list ux x =
     -- 7. the fast phase, and 8. the accurate phase where that does not decide
     (rounded (exp2m1Fast x (leb ax 0x3fc0000000000000)) (exp2m1Accurate x)))))))
 
--- the bits of the score; a NaN has those that request A.7 returns
+-- the bits of the score: those that request A.7 returns for a NaN, and else those of the steps
 abbrev pub scoreWith : List Entry → ℕ → ℕ
 scoreWith list ux = firstNan (ux ∷ []) (toBits binary64 (steps list ux (bits ux)))
 

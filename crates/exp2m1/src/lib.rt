@@ -47,13 +47,13 @@ const SCALED: u64 = 0x3970000000000000;
 
 const SMALL: u64 = 0x3cc0527dbd87e24d;
 
-// The score of the weight with the bits x: the bits of 2^x - 1, or of a NaN its own, quiet.
+// The score of the weight with the bits x: the bits of 2^x - 1, or a NaN's own with the top fraction bit set.
 pub fn score(x: u64) -> u64
     ensures { λ r. ⌜ r ≡ scoreBits x ⌝ }
 {
     let y = exp2m1(math::from_bits(x));
     if y != y {
-        // Here, and not before: every other weight then takes no test more.
+        // Behind the steps, and not before: where their result is a number, this takes no test more.
         if INFINITY < x % SIGN {
             return quiet(x);
         }

@@ -1,5 +1,5 @@
 // Rounding to a whole number, and floor, on 64-bit patterns. Each public call is total, and its contract is an equation
-// with `roundBits` or `floorBits` of ieee754's specs/Operations.antt. A NaN is returned, quiet.
+// with `roundBits` or `floorBits` of ieee754's specs/Operations.antt.
 //
 // The significand is shifted down to whole units in the direction, and what is left is written as a float, which is
 // exact.

@@ -1,5 +1,5 @@
 // Scaling by a power of two, on 64-bit patterns. The public call is total, and its contract is an equation with
-// `scaleBits` of ieee754's specs/Operations.antt. A NaN is returned, quiet.
+// `scaleBits` of ieee754's specs/Operations.antt.
 //
 // Exponents past those of every result are brought to a bound, whose rounding is the same.
 ghost use mathlib.Core.Path.{_≡_};
