@@ -49,11 +49,11 @@ to-nearest = refl
 abbrev nans : List ℕ
 nans = triple 0 0xfff0000000000002 0x7ff0000000000003 ++ triple 0 0x7ff0000000000000 0x7ff0000000000003
 
-pub missing :
+pub nan-answers :
     answer (1 ∷ 1 ∷ (wordBytes 0xfff0000000000001 ++ wordBytes 0x7fffffffffffffff)) ∷ answer (1 ∷ 2 ∷ nans) ∷ answer (1 ∷ 3 ∷ 2 ∷ nans) ∷ []
     ≡ results 0xfff8000000000001 0x7fffffffffffffff ∷ results 0xfff8000000000002 0x7ff8000000000003 ∷ results 0xfff8000000000002 0x7ff8000000000003 ∷ []
 unfolding answerTo accepted itemsIn resultsOf resultAt directionIn refusalTo isKind kindOf badPayload numberAt wordBytes scoreBits fusedBits
-missing = refl
+nan-answers = refl
 
 -- 28 bytes; with a byte or with 24 it is 5
 abbrev eight : ℕ → ℕ → List ℕ

@@ -1,7 +1,6 @@
 -- Step 5 is the one that looks at the list, and finds in it what there is; and that at a list, in step 5 and outside of it. Assumes nothing.
 use mathlib.Core.Path.{_≡_, refl}
 use mathlib.Core.List.{List, [], _∷_}
-use Prim.Native.Nat.{ℕ, _<_, _^_}
 use lib.Dec.{lit<}
 use Rattle.pair.specs.Pair.{bits}
 use Rattle.exceptions.specs.declared.Entry.{Entry}
@@ -11,7 +10,7 @@ use Rattle.exceptions.proofs.Scan.{finds}
 use Rattle.exp2m1.specs.Range.{isSmall}
 use Rattle.exp2m1.specs.Score.{scoreWith, scoreBits}
 use Rattle.exp2m1.proofs.Small.{small, elsewhere}
-use Rattle.score_with.specs.Score.{Listed, EveryListed}
+use Rattle.score_with.specs.Score.{EveryListed}
 
 pub listed : EveryListed
 unfolding scoreBits

@@ -20,9 +20,9 @@ use Rattle.exp2m1.proofs.score.Tie as tie
 by-pattern : (ux : ℕ) {x y : Float} → ux < 2 ^ 64 → x ≡ ofBits binary64 ux → y ≡ steps (entries First) (toBits binary64 x) x → y ≡ steps (entries First) ux (bits ux)
 by-pattern ux l hx hy = hy ∙ ap (λ (x : Float). steps (entries First) (toBits binary64 x) x) hx ∙ same-steps (entries First) ux l
 
-missing : (ux : ℕ) {r : ℕ} → 0x7ff0000000000000 < ux % 2 ^ 63 → r ≡ quiet ux → r ≡ scoreBits ux
+of-nan : (ux : ℕ) {r : ℕ} → 0x7ff0000000000000 < ux % 2 ^ 63 → r ≡ quiet ux → r ≡ scoreBits ux
 unfolding scoreBits
-missing ux n h = h ∙ nan-first ux [] _ n
+of-nan ux n h = h ∙ nan-first ux [] _ n
 
 follows : (ux : ℕ) {y : Float} {r : ℕ} → ux % 2 ^ 63 ≤ 0x7ff0000000000000 → y ≡ steps (entries First) ux (bits ux) → r ≡ toBits binary64 y → r ≡ scoreBits ux
 unfolding scoreBits
@@ -37,7 +37,7 @@ number : (ux : ℕ) {y : Float} → y ≡ steps (entries First) ux (bits ux) →
 number ux hy e = ⊎-elim (λ l. l) (λ h. absurd (true≢false (sym (ap (λ (y : Float). ne y y) (hy ∙ step-1 (entries First) ux (bits ux) h) ∙ nan-differs) ∙ e))) (le-or-gt (ux % 2 ^ 63) 0x7ff0000000000000)
 
 returns : tie.Need-returns
-returns c = missing _ (c .before .if2 .taken) (c .quiet .ensures)
+returns c = of-nan _ (c .before .if2 .taken) (c .quiet .ensures)
 
 returns-2 : tie.Need-returns-2
 returns-2 c =
