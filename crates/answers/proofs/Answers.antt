@@ -98,9 +98,13 @@ answer-by-length c n b d e = low (ltb n 2) refl
     low true i = same 0 (too-short n b (ltb-true _ _ i)) (too-short n d (ltb-true _ _ i))
     low false i = high (ltb longestBody n) refl (ltb-false _ _ i)
 
+-- the same answer, written
+pub written-as : {a b : Answer} {n : ℕ} {before after : List ℕ} → a ≡ b → Written a n before after → Written b n before after
+written-as {a} {b} {n} {before} {after} e w = subst (λ (x : Answer). Written x n before after) e w
+
 pub refusal-written : (c : Counts) (n : ℕ) (b before after : List ℕ) {k len : ℕ} → k ≡ refusalTo n b → (k ≡ 0 → ⊥) → len ≡ 4 → after ≡ refusalFrame k ++ drop 4 before
     → Written (answerTo c n b) len before after
-refusal-written c n b before after {k} {len} e z l w = subst (λ (a : Answer). Written a len before after) (sym (answer-bad c n b e z)) (record { len = l; buffer = w })
+refusal-written c n b before after {k} {len} e z l w = written-as (sym (answer-bad c n b e z)) (record { len = l; buffer = w })
 
 -- a head for so many bytes, and what is written behind it
 pub results-written : (results before a₁ w : List ℕ) (size : ℕ) → size ≡ 2 + length results

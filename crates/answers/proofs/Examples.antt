@@ -1,16 +1,18 @@
--- Worked examples of specs/Answers.antt, computed: kind 3 in each direction, and beside it kind 2; NaNs; a report, and one with a payload.
--- Assumes nothing.
+-- Worked examples of specs/Answers.antt, computed: kind 3 in each direction, and beside it kind 2; NaNs; a report, and one with a payload;
+-- sheets. Assumes nothing.
 use Prim.Native.Nat.{ℕ}
 use mathlib.Core.Path.{_≡_, refl}
 use mathlib.Core.List.{List, [], _∷_, _++_, map}
 use lib.ListN.{length, replicate}
-use Rattle.words.specs.Bytes.{numberAt, wordBytes}
+use lib.Ieee.{eq, ofBits, toBits}
+use Rattle.words.specs.Bytes.{numberAt, wordBytes, wordsOf}
 use Rattle.ieee754.specs.Operations.{fusedBits}
-use Rattle.exp2m1.specs.Score.{scoreBits}
+use Rattle.exp2m1.specs.Score.{steps, scoreBits}
+use Rattle.sheets.specs.Sheet.{sheetRefusal}
 use Rattle.frames.specs.Frame.{isKind, kindOf, badPayload, refusalTo, refusalFrame}
 use Rattle.counts.specs.Counts.{reportOf}
 use Rattle.counts.specs.declared.Counts.{Counts}
-use Rattle.answers.specs.Answers.{Answer, directionIn, resultAt, resultsOf, itemsIn, accepted, answerTo}
+use Rattle.answers.specs.Answers.{Answer, directionIn, resultAt, lineScore, resultsOf, itemsIn, accepted, answerTo}
 
 -- where 258 frames were accepted and 3 refused
 abbrev counts : Counts
@@ -38,11 +40,11 @@ pub in-each :
     ∷ results 0x3ff0000000000000 0x8000000000000000
     ∷ record { bytes = refusalFrame 11; number = 11 }
     ∷ []
-unfolding answerTo accepted itemsIn resultsOf resultAt directionIn refusalTo isKind kindOf badPayload numberAt wordBytes fusedBits
+unfolding answerTo accepted itemsIn resultsOf resultAt directionIn wordsOf refusalTo isKind kindOf badPayload numberAt wordBytes fusedBits
 in-each = refl
 
 pub to-nearest : answer (1 ∷ 2 ∷ triples) ≡ results 0x3ff0000000000000 0
-unfolding answerTo accepted itemsIn resultsOf resultAt directionIn refusalTo isKind kindOf badPayload numberAt wordBytes fusedBits
+unfolding answerTo accepted itemsIn resultsOf resultAt directionIn wordsOf refusalTo isKind kindOf badPayload numberAt wordBytes fusedBits
 to-nearest = refl
 
 -- a NaN weight; as b and c of a triple, and as c alone beside 0 * infinity, to nearest and up
@@ -52,7 +54,7 @@ nans = triple 0 0xfff0000000000002 0x7ff0000000000003 ++ triple 0 0x7ff000000000
 pub nan-answers :
     answer (1 ∷ 1 ∷ (wordBytes 0xfff0000000000001 ++ wordBytes 0x7fffffffffffffff)) ∷ answer (1 ∷ 2 ∷ nans) ∷ answer (1 ∷ 3 ∷ 2 ∷ nans) ∷ []
     ≡ results 0xfff8000000000001 0x7fffffffffffffff ∷ results 0xfff8000000000002 0x7ff8000000000003 ∷ results 0xfff8000000000002 0x7ff8000000000003 ∷ []
-unfolding answerTo accepted itemsIn resultsOf resultAt directionIn refusalTo isKind kindOf badPayload numberAt wordBytes scoreBits fusedBits
+unfolding answerTo accepted itemsIn resultsOf resultAt directionIn wordsOf refusalTo isKind kindOf badPayload numberAt wordBytes scoreBits fusedBits
 nan-answers = refl
 
 -- 28 bytes; with a byte or with 24 it is 5
@@ -65,5 +67,28 @@ pub reports :
     ∷ record { bytes = refusalFrame 5; number = 5 }
     ∷ record { bytes = refusalFrame 5; number = 5 }
     ∷ []
-unfolding answerTo accepted itemsIn resultsOf resultAt directionIn refusalTo isKind kindOf badPayload reportOf numberAt wordBytes fusedBits
+unfolding answerTo accepted itemsIn resultsOf resultAt directionIn wordsOf refusalTo isKind kindOf badPayload reportOf numberAt wordBytes fusedBits
 reports = refl
+
+-- a household of four: -1024, 1024, their sum, and that and -1024; refused where the last line names itself
+abbrev household : ℕ → List ℕ
+household second =
+    1
+    ∷ 5
+    ∷ ((0 ∷ wordBytes 0xc090000000000000)
+    ++ ((0 ∷ wordBytes 0x4090000000000000)
+    ++ ((1 ∷ 0 ∷ 1 ∷ replicate 6 0)
+    ++ (1 ∷ 2 ∷ second ∷ replicate 6 0))))
+
+pub sheets :
+    answer (household 0) ∷ answer (household 3) ∷ answer (1 ∷ 5 ∷ []) ∷ answer (1 ∷ 5 ∷ 2 ∷ replicate 8 0) ∷ []
+    ≡ record {
+      bytes = 0 ∷ 34 ∷ 1 ∷ 0 ∷ (wordBytes 0xbff0000000000000 ++ (wordBytes 0x7ff0000000000000 ++ (wordBytes 0 ++ wordBytes 0xbff0000000000000)));
+      number = 0;
+    }
+    ∷ record { bytes = refusalFrame 15; number = 15 }
+    ∷ record { bytes = refusalFrame 5; number = 5 }
+    ∷ record { bytes = refusalFrame 14; number = 14 }
+    ∷ []
+unfolding answerTo accepted itemsIn resultsOf resultAt directionIn wordsOf refusalTo isKind kindOf badPayload sheetRefusal lineScore numberAt wordBytes scoreBits steps eq ofBits toBits fusedBits
+sheets = refl

@@ -1,12 +1,12 @@
--- Answers (document 01, "A delivery enters"; document 02, A.3 and A.6): the results of a payload's items, and the answer to a whole frame of
+-- Answers (document 01, "A delivery enters"; document 02, A.3, A.6 and A.8): the results of a payload's items, and the answer to a whole frame of
 -- each kind, where a report shows these counts. Lengths, kinds and the sender's refusals come before it, in crates/frames/specs/Frame.antt,
 -- and what is counted in crates/counts/specs/Counts.antt. Definitions only.
-use Prim.Native.Nat.{ℕ, zero, suc, _+_, _*_, _/_, _%_, _-_}
-use mathlib.Core.List.{List, [], _∷_, _++_}
+use Prim.Native.Nat.{ℕ, _+_, _*_, _/_, _%_, _-_}
+use mathlib.Core.List.{List, _∷_}
 use mathlib.Core.Bool.{Bool, cond, _&&_}
 use lib.ListN.{length, getD, drop}
 use lib.Dec.{eqb}
-use Rattle.words.specs.Bytes.{numberAt, wordBytes}
+use Rattle.words.specs.Bytes.{numberAt, wordsOf}
 use Rattle.rounding.specs.Named.{directionOf}
 use Rattle.rounding.specs.declared.Direction.{Direction}
 use Rattle.rounding.specs.declared.Direction.the-variants.{Nearest}
@@ -14,6 +14,7 @@ use Rattle.rounding.specs.declared.Named.{Named}
 use Rattle.rounding.specs.declared.Named.the-variants.{Known, Unknown}
 use Rattle.ieee754.specs.Operations.{fusedBits}
 use Rattle.exp2m1.specs.Score.{scoreBits}
+use Rattle.sheet_values.specs.Values.{valueOf}
 use Rattle.frames.specs.Frame.{bodyLength, itemsFrom, itemBytes, itemCount, refusalTo, refusalFrame}
 use Rattle.counts.specs.Counts.{reportOf}
 use Rattle.counts.specs.declared.Counts.{Counts}
@@ -35,10 +36,20 @@ resultAt kind p at =
     (scoreBits (numberAt 8 p at))
     (fusedBits (directionIn kind p) (numberAt 8 p at) (numberAt 8 p (at + 8)) (numberAt 8 p (at + 16)))
 
+-- the score of each line by its number, counted from 0: that of its value
+unfoldable pub lineScore : List ℕ → ℕ → ℕ
+unfolding valueOf
+lineScore p i = scoreBits (valueOf p i)
+
+-- the result of each item by its number: of a line that, and of every other item the one at its place
+unfoldable pub resultOf : ℕ → List ℕ → ℕ → ℕ
+unfolding lineScore resultAt
+resultOf kind p = cond (eqb kind 5) (lineScore p) (λ i. resultAt kind p (itemsFrom kind + i * itemBytes kind))
+
 -- the results of the first n items of a payload in item order, 8 bytes each
 unfoldable pub resultsOf : ℕ → ℕ → List ℕ → List ℕ
-resultsOf kind zero p = []
-resultsOf kind (suc n) p = resultsOf kind n p ++ wordBytes (resultAt kind p (itemsFrom kind + n * itemBytes kind))
+unfolding resultOf
+resultsOf kind n p = wordsOf (resultOf kind p) n
 
 -- ---- answers
 

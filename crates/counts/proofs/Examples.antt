@@ -13,10 +13,15 @@ abbrev countedAll : List ℕ → Tally → Tally
 countedAll [] t = t
 countedAll (n ∷ ns) t = countedAll ns (counted n t)
 
--- two accepted, 1 to 5 and 11 once each; 6, 7, 8, 9, 10, 12 and 13 are not counted
-pub which : countedAll (0 ∷ 1 ∷ 2 ∷ 3 ∷ 4 ∷ 5 ∷ 6 ∷ 7 ∷ 8 ∷ 9 ∷ 10 ∷ 11 ∷ 12 ∷ 13 ∷ 0 ∷ []) noneCounted ≡ record { accepted = 2; refused = 6 }
+-- two accepted, 1 to 5, 11, 14 and 15 once each; 6, 7, 8, 9, 10, 12, 13 and 16 are not counted
+pub which :
+    countedAll (0 ∷ 1 ∷ 2 ∷ 3 ∷ 4 ∷ 5 ∷ 6 ∷ 7 ∷ 8 ∷ 9 ∷ 10 ∷ 11 ∷ 12 ∷ 13 ∷ 14 ∷ 15 ∷ 16 ∷ 0 ∷ []) noneCounted ≡ record { accepted = 2; refused = 8 }
 unfolding isRefused
 which = refl
+
+pub which-refused : map isRefused (5 ∷ 6 ∷ 10 ∷ 11 ∷ 12 ∷ 13 ∷ 14 ∷ 15 ∷ 16 ∷ []) ≡ true ∷ false ∷ false ∷ true ∷ false ∷ false ∷ true ∷ true ∷ false ∷ []
+unfolding isRefused
+which-refused = refl
 
 abbrev counts : ℕ → ℕ → ℕ → Counts
 counts a r t = record { accepted = a; refused = r; total = t }

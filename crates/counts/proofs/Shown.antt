@@ -1,9 +1,10 @@
 -- What is shown of the true counts is a sum, and goes on by what is shown alone. Assumes nothing.
 use Prim.Native.Nat.{ℕ, zero, suc, _+_, _≤_}
-use mathlib.Core.Path.{_≡_, refl, sym}
+use mathlib.Core.Path.{_≡_, refl, sym, ap}
 use mathlib.Core.Bool.{Bool, true, false}
 use native.Mathlib.Omega.{arith}
-use borrow.Author.Tests.{eq-eqb, ne-eqb, eqb-true}
+use lib.Dec.{ltb}
+use borrow.Author.Tests.{eq-eqb, ne-eqb, eqb-true, ltb-true, ltb-false}
 use Rattle.counts.specs.Counts.{isAccepted, isRefused, Tally, oneIf, counted, most, stopped, shown, tallyIn, isSum, added, shownNext}
 use Rattle.counts.specs.declared.Counts.{Counts}
 
@@ -39,9 +40,17 @@ pub refused-direction : {n : ℕ} → n ≡ 11 → isRefused n ≡ true
 unfolding isRefused
 refused-direction e = rw e refl
 
-pub not-refused : (n : ℕ) → (1 ≤ n → n ≤ 5 → ⊥) → (n ≡ 11 → ⊥) → isRefused n ≡ false
+pub refused-sheet : (n : ℕ) → 14 ≤ n → n ≤ 15 → isRefused n ≡ true
 unfolding isRefused
-not-refused n h z =
+refused-sheet n l h = go (ltb n 15) refl
+  where
+    go : (t : Bool) → ltb n 15 ≡ t → isRefused n ≡ true
+    go true e = let s = ltb-true n 15 e in let z : n ≡ 14 = omega arith in ap isRefused z
+    go false e = let s = ltb-false n 15 e in let z : n ≡ 15 = omega arith in ap isRefused z
+
+pub not-refused : (n : ℕ) → (1 ≤ n → n ≤ 5 → ⊥) → (n ≡ 11 → ⊥) → (14 ≤ n → n ≤ 15 → ⊥) → isRefused n ≡ false
+unfolding isRefused
+not-refused n h z l =
     rw (
       ne-eqb n 1 (λ e. h (omega arith) (omega arith)),
       ne-eqb n 2 (λ e. h (omega arith) (omega arith)),
@@ -49,6 +58,8 @@ not-refused n h z =
       ne-eqb n 4 (λ e. h (omega arith) (omega arith)),
       ne-eqb n 5 (λ e. h (omega arith) (omega arith)),
       ne-eqb n 11 z,
+      ne-eqb n 14 (λ e. l (omega arith) (omega arith)),
+      ne-eqb n 15 (λ e. l (omega arith) (omega arith)),
     )
     refl
 

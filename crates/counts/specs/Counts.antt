@@ -1,4 +1,4 @@
--- The counts of a report (document 02, A.6): what is counted of the answers, without an end, and what is shown of it, stopped.
+-- The counts of a report (document 02, A.6 and A.8): what is counted of the answers, without an end, and what is shown of it, stopped.
 -- Definitions only.
 use Prim.Native.Nat.{ℕ, suc, _+_, min}
 use mathlib.Core.List.{List, [], _∷_, _++_}
@@ -11,7 +11,7 @@ use Rattle.counts.specs.declared.Counts.{Counts}
 
 -- the refusals that count
 abbrev pub countedRefusals : List ℕ
-countedRefusals = 1 ∷ 2 ∷ 3 ∷ 4 ∷ 5 ∷ 11 ∷ []
+countedRefusals = 1 ∷ 2 ∷ 3 ∷ 4 ∷ 5 ∷ 11 ∷ 14 ∷ 15 ∷ []
 
 abbrev pub isAmong : ℕ → List ℕ → Bool
 isAmong n [] = false

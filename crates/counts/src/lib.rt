@@ -33,7 +33,7 @@ fn is_refused(number: u8) -> bool
     ensures { λ r. ⌜ r ≡ isRefused number ⌝ }
 {
     match number {
-        1 | 2 | 3 | 4 | 5 | 11 => true,
+        1 | 2 | 3 | 4 | 5 | 11 | 14 | 15 => true,
         _ => false,
     }
 }

@@ -8,12 +8,13 @@ use native.Mathlib.Omega.{arith}
 use lib.ListN.{length, getD, drop, replicate}
 use lib.Ieee.{ofBits, toBits}
 use borrow.Author.Tests.{leb-false}
-use Rattle.words.specs.Bytes.{numberAt, wordBytes}
+use Rattle.words.specs.Bytes.{numberAt, wordBytes, wordsOf}
 use Rattle.exp2m1.specs.Score.{steps, scoreBits}
 use Rattle.counts.specs.Counts.{isRefused, most, stopped, isSum, reportOf}
 use Rattle.counts.specs.declared.Counts.{Counts}
+use Rattle.sheets.specs.Sheet.{sheetRefusal}
 use Rattle.frames.specs.Frame.{answerRoom, bodyLength, whole, kept, isKind, kindOf, badPayload, refusalTo, refusalFrame}
-use Rattle.answers.specs.Answers.{resultAt, resultsOf, itemsIn, accepted, answerTo, answerOf, isReport}
+use Rattle.answers.specs.Answers.{resultAt, lineScore, resultsOf, itemsIn, accepted, answerTo, answerOf, isReport}
 use Rattle.memory.specs.Memory.{Sized, showsMemory}
 use Rattle.memory.specs.declared.View.{View}
 use Rattle.partial_frame.specs.State.{keptBytes, placesOf, isLeft, bytesIn}
@@ -41,14 +42,19 @@ input = one 1 1 0xc0 0x4b ++ (0 ∷ 0 ∷ 0 ∷ [])
 abbrev wholeCase : List Call
 wholeCase = handedOn emptyBook input (replicate 15 room) ++ (Close room ∷ [])
 
--- weights -54, 1024 and -54; kind 3 with a direction byte alone; a report; an unfinished frame; closed twice; a frame with no body; a report
--- with a payload
+-- a sheet: the weight -54, and the sum of line 0 and of this line
+abbrev sheet : ℕ → List ℕ
+sheet second = 0 ∷ 20 ∷ 1 ∷ 5 ∷ 0 ∷ 0xc0 ∷ 0x4b ∷ 0 ∷ 0 ∷ 0 ∷ 0 ∷ 0 ∷ 0 ∷ 1 ∷ 0 ∷ second ∷ 0 ∷ 0 ∷ 0 ∷ 0 ∷ 0 ∷ 0 ∷ []
+
+-- weights -54, 1024 and -54; kind 3 with a direction byte alone; a sheet with the lines -54 and -54 - 54; a report; an unfinished frame; closed twice;
+-- a frame with no body; a report with a payload
 abbrev before : List Call
 before =
     Take (one 1 1 0xc0 0x4b) room
     ∷ Take (one 1 1 0x40 0x90) room
     ∷ Take (one 1 1 0xc0 0x4b) room
     ∷ Take (0 ∷ 3 ∷ 1 ∷ 3 ∷ 0 ∷ []) room
+    ∷ Take (sheet 0) room
     ∷ []
 
 abbrev sent : List Call
@@ -62,8 +68,8 @@ sent =
     ∷ Take (0 ∷ 3 ∷ 1 ∷ 4 ∷ 0 ∷ []) room
     ∷ [])
 
--- 1024 became a NaN, the version of the third frame 255, the direction byte 4, and the third byte of the unfinished frame 7; the first frame
--- comes in two pieces, the second with a byte too many, and before the frame with no body a take is refused by 6
+-- 1024 became a NaN, the version of the third frame 255, the direction byte 4, a line number of the sheet the line's own, and the third byte of the
+-- unfinished frame 7; the first frame comes in two pieces, the second with a byte too many, and before the frame with no body a take is refused by 6
 abbrev damaged : List Call
 damaged =
     Take (0 ∷ 10 ∷ 1 ∷ []) room
@@ -71,6 +77,7 @@ damaged =
     ∷ Take (one 1 1 0xff 0xf1) room
     ∷ Take (one 0xff 1 0xc0 0x4b) room
     ∷ Take (0 ∷ 3 ∷ 1 ∷ 3 ∷ 4 ∷ []) room
+    ∷ Take (sheet 1) room
     ∷ Take report room
     ∷ Take (0 ∷ 10 ∷ 7 ∷ []) room
     ∷ Close room
@@ -95,7 +102,8 @@ pub replies :
     ∷ one 1 0 0x7f 0xf0
     ∷ one 1 0 0xbf 0xf0
     ∷ refusalFrame 5
-    ∷ reported 3 1 4
+    ∷ (0 ∷ 18 ∷ 1 ∷ 0 ∷ 0xbf ∷ 0xf0 ∷ 0 ∷ 0 ∷ 0 ∷ 0 ∷ 0 ∷ 0 ∷ 0xbf ∷ 0xf0 ∷ 0 ∷ 0 ∷ 0 ∷ 0 ∷ 0 ∷ 0 ∷ [])
+    ∷ reported 4 1 5
     ∷ refusalFrame 8
     ∷ refusalFrame 1
     ∷ refusalFrame 5
@@ -105,7 +113,8 @@ pub replies :
     ∷ one 1 0 0xff 0xf9
     ∷ refusalFrame 3
     ∷ refusalFrame 11
-    ∷ reported 2 2 4
+    ∷ refusalFrame 15
+    ∷ reported 2 3 5
     ∷ refusalFrame 8
     ∷ refusalFrame 1
     ∷ refusalFrame 5
@@ -116,6 +125,7 @@ pub replies :
     ∷ (12 ∷ 12 ∷ 0 ∷ [])
     ∷ (12 ∷ 4 ∷ 3 ∷ [])
     ∷ (5 ∷ 4 ∷ 11 ∷ [])
+    ∷ (22 ∷ 4 ∷ 15 ∷ [])
     ∷ (4 ∷ 28 ∷ 0 ∷ [])
     ∷ (3 ∷ 0 ∷ 0 ∷ [])
     ∷ (0 ∷ 4 ∷ 8 ∷ [])
@@ -124,7 +134,7 @@ pub replies :
     ∷ (2 ∷ 4 ∷ 1 ∷ [])
     ∷ (5 ∷ 4 ∷ 5 ∷ [])
     ∷ [])
-unfolding takeOf closeOf isGood bookOf isLeft bytesIn placesOf keptBytes whole kept refusalTo isKind kindOf badPayload resultAt resultsOf itemsIn accepted answerTo answerOf scoreBits steps ofBits toBits numberAt wordBytes isRefused stopped isSum reportOf
+unfolding takeOf closeOf isGood bookOf isLeft bytesIn placesOf keptBytes whole kept refusalTo isKind kindOf badPayload sheetRefusal lineScore resultAt resultsOf wordsOf itemsIn accepted answerTo answerOf scoreBits steps ofBits toBits numberAt wordBytes isRefused stopped isSum reportOf
 replies = (refl, refl, refl, refl)
 
 -- ---- demand 3
@@ -172,9 +182,9 @@ one-report = demand-3 .reports report refl report-shows
 
 -- ---- the counts
 
--- after all of it 4 accepted, the report too, and 3 refused; the report had what came before it
-pub counted-sent : (stateAfter freshState sent .view ≡ counting 4 3 7) × (written (replyAfter before (Take report room) ∷ []) ≡ reported 3 1 4 ∷ [])
-unfolding takeOf closeOf isGood bookOf isLeft bytesIn placesOf keptBytes whole kept refusalTo isKind kindOf badPayload resultAt resultsOf itemsIn accepted answerTo answerOf scoreBits steps ofBits toBits numberAt wordBytes isRefused stopped isSum reportOf
+-- after all of it 5 accepted, the report too, and 3 refused; the report had what came before it
+pub counted-sent : (stateAfter freshState sent .view ≡ counting 5 3 8) × (written (replyAfter before (Take report room) ∷ []) ≡ reported 4 1 5 ∷ [])
+unfolding takeOf closeOf isGood bookOf isLeft bytesIn placesOf keptBytes whole kept refusalTo isKind kindOf badPayload sheetRefusal lineScore resultAt resultsOf wordsOf itemsIn accepted answerTo answerOf scoreBits steps ofBits toBits numberAt wordBytes isRefused stopped isSum reportOf
 counted-sent = (
   ap (λ (c : Counts). record { counts = c }) (counts .states sent),
   counts .reports before (Take report room) refl,

@@ -1,8 +1,9 @@
 -- Worked examples of specs/Frame.antt, computed: the sender's refusals in their order, at the bounds of each. Assumes nothing.
-use Prim.Native.Nat.{ℕ}
+use Prim.Native.Nat.{ℕ, zero, suc}
 use mathlib.Core.Path.{_≡_, refl}
 use mathlib.Core.List.{List, [], _∷_, _++_, map}
 use lib.ListN.{length, replicate}
+use Rattle.sheets.specs.Sheet.{sheetRefusal}
 use Rattle.frames.specs.Frame.{isKind, kindOf, itemCount, badPayload, refusalTo}
 
 -- the refusal of a body that is there as a whole
@@ -18,8 +19,8 @@ pub by-length : map refusal ([] ∷ (1 ∷ []) ∷ body 1 1 [] 513 ∷ body 9 9 
 unfolding refusalTo
 by-length = refl
 
--- 3, also where 4 or 11 applies; 4, for kinds 0 and 5, also where 5 does
-pub by-version-and-kind : map refusal (body 0 1 [] 8 ∷ body 2 5 [] 8 ∷ body 2 3 (4 ∷ []) 24 ∷ body 1 0 [] 8 ∷ body 1 5 [] 0 ∷ body 1 255 [] 3 ∷ []) ≡ 3 ∷ 3 ∷ 3 ∷ 4 ∷ 4 ∷ 4 ∷ []
+-- 3, also where 4 or 11 applies; 4, for kinds 0 and 6, also where 5 does
+pub by-version-and-kind : map refusal (body 0 1 [] 8 ∷ body 2 6 [] 8 ∷ body 2 3 (4 ∷ []) 24 ∷ body 1 0 [] 8 ∷ body 1 6 [] 0 ∷ body 1 255 [] 3 ∷ []) ≡ 3 ∷ 3 ∷ 3 ∷ 4 ∷ 4 ∷ 4 ∷ []
 unfolding refusalTo isKind
 by-version-and-kind = refl
 
@@ -58,7 +59,37 @@ pub report-kind :
 unfolding refusalTo isKind kindOf badPayload
 report-kind = refl
 
+-- a sheet: 5 for no line, and for 8, 10, 505 and 512 bytes, also where 14 applies; 0 for 1, 2 and 56 lines of a weight; 14 and 15 after 5; 3 for
+-- version 2; a body of 515 is 2
+abbrev weights : ℕ → List ℕ
+weights zero = []
+weights (suc n) = 0 ∷ 255 ∷ 255 ∷ 255 ∷ 255 ∷ 255 ∷ 255 ∷ 255 ∷ 255 ∷ weights n
+
+abbrev self : List ℕ
+self = 1 ∷ 0 ∷ 0 ∷ replicate 6 0
+
+pub sheet-kind :
+    map refusal
+    (body 1 5 [] 0
+    ∷ body 1 5 [] 8
+    ∷ body 1 5 [] 10
+    ∷ body 1 5 (weights 56) 1
+    ∷ body 1 5 (weights 56) 8
+    ∷ body 1 5 (weights 1) 0
+    ∷ body 1 5 (weights 2) 0
+    ∷ body 1 5 (weights 56) 0
+    ∷ body 1 5 [] 9
+    ∷ body 1 5 (weights 55) 9
+    ∷ body 1 5 self 0
+    ∷ body 1 5 self 9
+    ∷ body 2 5 self 0
+    ∷ body 1 5 (weights 57) 0
+    ∷ [])
+    ≡ 5 ∷ 5 ∷ 5 ∷ 5 ∷ 5 ∷ 0 ∷ 0 ∷ 0 ∷ 14 ∷ 14 ∷ 15 ∷ 15 ∷ 3 ∷ 2 ∷ []
+unfolding refusalTo isKind kindOf badPayload sheetRefusal
+sheet-kind = refl
+
 -- the items of the longest payloads
-pub counts : (itemCount 1 512 ≡ 64) × (itemCount 2 504 ≡ 21) × (itemCount 3 505 ≡ 21)
+pub counts : (itemCount 1 512 ≡ 64) × (itemCount 2 504 ≡ 21) × (itemCount 3 505 ≡ 21) × (itemCount 5 504 ≡ 56)
 unfolding kindOf
-counts = (refl, refl, refl)
+counts = (refl, refl, refl, refl)

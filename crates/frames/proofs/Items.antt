@@ -7,9 +7,11 @@ use native.Mathlib.Nat.{mul-le-mul-left, div-mul-le-self}
 use native.Mathlib.Omega.{arith}
 use lib.Dec.{leb, eqb}
 use borrow.Author.Tests.{lt-ltb, le-ltb, leb-true, leb-false, eqb-true, eqb-false}
+use Rattle.sheets.specs.Sheet.{sheetRefusal}
 use Rattle.frames.specs.Frame.{noItems, isKind, kindOf, itemsFrom, itemBytes, itemCount, badPayload}
 
--- of every other number than 3 the items come first, and there is no refusal of its own
+-- of every other number than 3 the items come first, and there is no refusal of its own before 5; of every other number than 5 there is none after
+-- 5
 pub items-first : (kind : ℕ) → (kind ≡ 3 → ⊥) → itemsFrom kind ≡ 0
 unfolding kindOf
 items-first zero n = refl
@@ -17,7 +19,8 @@ items-first (suc zero) n = refl
 items-first (suc (suc zero)) n = refl
 items-first (suc (suc (suc zero))) n = absurd (n refl)
 items-first (suc (suc (suc (suc zero)))) n = refl
-items-first (suc (suc (suc (suc (suc kind))))) n = refl
+items-first (suc (suc (suc (suc (suc zero))))) n = refl
+items-first (suc (suc (suc (suc (suc (suc kind)))))) n = refl
 
 pub items-third : {kind : ℕ} → kind ≡ 3 → itemsFrom kind ≡ 1
 unfolding kindOf
@@ -30,41 +33,62 @@ none-own (suc zero) p n = refl
 none-own (suc (suc zero)) p n = refl
 none-own (suc (suc (suc zero))) p n = absurd (n refl)
 none-own (suc (suc (suc (suc zero)))) p n = refl
-none-own (suc (suc (suc (suc (suc kind))))) p n = refl
+none-own (suc (suc (suc (suc (suc zero))))) p n = refl
+none-own (suc (suc (suc (suc (suc (suc kind)))))) p n = refl
+
+pub none-later : (kind : ℕ) (payload : List ℕ) → (kind ≡ 5 → ⊥) → kindOf kind .later payload ≡ 0
+unfolding kindOf
+none-later zero p n = refl
+none-later (suc zero) p n = refl
+none-later (suc (suc zero)) p n = refl
+none-later (suc (suc (suc zero))) p n = refl
+none-later (suc (suc (suc (suc zero)))) p n = refl
+none-later (suc (suc (suc (suc (suc zero))))) p n = absurd (n refl)
+none-later (suc (suc (suc (suc (suc (suc kind)))))) p n = refl
+
+pub sheet-later : {kind : ℕ} → kind ≡ 5 → (payload : List ℕ) → kindOf kind .later payload ≡ sheetRefusal payload
+unfolding kindOf
+sheet-later e p = rw e refl
 
 pub item-one : {kind : ℕ} → kind ≡ 1 → itemBytes kind ≡ 8
 unfolding kindOf
 item-one e = rw e refl
 
-pub item-other : (kind : ℕ) → (kind ≡ 1 → ⊥) → itemBytes kind ≡ 24
+pub item-line : {kind : ℕ} → kind ≡ 5 → itemBytes kind ≡ 9
 unfolding kindOf
-item-other zero n = refl
-item-other (suc zero) n = absurd (n refl)
-item-other (suc (suc zero)) n = refl
-item-other (suc (suc (suc zero))) n = refl
-item-other (suc (suc (suc (suc zero)))) n = refl
-item-other (suc (suc (suc (suc (suc kind))))) n = refl
+item-line e = rw e refl
+
+pub item-other : (kind : ℕ) → (kind ≡ 1 → ⊥) → (kind ≡ 5 → ⊥) → itemBytes kind ≡ 24
+unfolding kindOf
+item-other zero m n = refl
+item-other (suc zero) m n = absurd (m refl)
+item-other (suc (suc zero)) m n = refl
+item-other (suc (suc (suc zero))) m n = refl
+item-other (suc (suc (suc (suc zero)))) m n = refl
+item-other (suc (suc (suc (suc (suc zero))))) m n = absurd (n refl)
+item-other (suc (suc (suc (suc (suc (suc kind)))))) m n = refl
 
 pub item-least : (kind : ℕ) → 8 ≤ itemBytes kind
-item-least kind = go (eqb kind 1) refl
+item-least kind = go (eqb kind 1) (eqb kind 5) refl refl
   where
-    go : (t : Bool) → eqb kind 1 ≡ t → 8 ≤ itemBytes kind
-    go true e = omega (arith, item-one (eqb-true kind 1 e))
-    go false e = omega (arith, item-other kind (eqb-false kind 1 e))
+    go : (s t : Bool) → eqb kind 1 ≡ s → eqb kind 5 ≡ t → 8 ≤ itemBytes kind
+    go true t e f = omega (arith, item-one (eqb-true kind 1 e))
+    go false true e f = omega (arith, item-line (eqb-true kind 5 f))
+    go false false e f = omega (arith, item-other kind (eqb-false kind 1 e) (eqb-false kind 5 f))
 
-pub some-kind : (kind : ℕ) → 1 ≤ kind → kind ≤ 4 → isKind kind ≡ true
+pub some-kind : (kind : ℕ) → 1 ≤ kind → kind ≤ 5 → isKind kind ≡ true
 unfolding isKind
 some-kind zero l h = absurd (omega arith)
-some-kind (suc place) l h = lt-ltb place 4 (omega arith)
+some-kind (suc place) l h = lt-ltb place 5 (omega arith)
 
-pub no-kind : (kind : ℕ) → (1 ≤ kind → kind ≤ 4 → ⊥) → isKind kind ≡ false
+pub no-kind : (kind : ℕ) → (1 ≤ kind → kind ≤ 5 → ⊥) → isKind kind ≡ false
 unfolding isKind
 no-kind zero n = refl
-no-kind (suc place) n = le-ltb place 4 (by (leb 4 place) refl)
+no-kind (suc place) n = le-ltb place 5 (by (leb 5 place) refl)
   where
-    by : (t : Bool) → leb 4 place ≡ t → 4 ≤ place
-    by true e = leb-true 4 place e
-    by false e = let h = leb-false 4 place e in absurd (n (omega arith) (omega arith))
+    by : (t : Bool) → leb 5 place ≡ t → 5 ≤ place
+    by true e = leb-true 5 place e
+    by false e = let h = leb-false 5 place e in absurd (n (omega arith) (omega arith))
 
 -- the lengths that a report does not have, and those that every other number does not
 pub bad-report : {kind : ℕ} → kind ≡ 4 → (n : ℕ) → badPayload kind n ≡ not (eqb n 0)
@@ -78,7 +102,8 @@ bad-items (suc zero) n z = refl
 bad-items (suc (suc zero)) n z = refl
 bad-items (suc (suc (suc zero))) n z = refl
 bad-items (suc (suc (suc (suc zero)))) n z = absurd (z refl)
-bad-items (suc (suc (suc (suc (suc kind))))) n z = refl
+bad-items (suc (suc (suc (suc (suc zero))))) n z = refl
+bad-items (suc (suc (suc (suc (suc (suc kind)))))) n z = refl
 
 -- an item has 8 bytes at least, so that 8 bytes for each take no more room than the payload; and the items end within it
 pub items-fit : (kind n : ℕ) → 8 * itemCount kind n ≤ n

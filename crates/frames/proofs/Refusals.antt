@@ -12,14 +12,11 @@ use borrow.Author.Tests.{lt-ltb, le-ltb, le-leb, leb-true, leb-false, eq-eqb, ne
 use Rattle.rounding.specs.Named.{directionOf}
 use Rattle.rounding.specs.declared.Named.{Named}
 use Rattle.rounding.specs.declared.Named.the-variants.{Known, Unknown}
-use Rattle.frames.specs.Frame.{longestBody, kept, directionRefusal, isKind, kindOf, itemsFrom, badPayload, orElse, refusalTo}
+use Rattle.sheets.specs.Sheet.{orElse, sheetRefusal}
+use Rattle.sheets.proofs.FirstBad.{or-bad, sheet-by}
+use Rattle.frames.specs.Frame.{longestBody, kept, directionRefusal, isKind, kindOf, itemsFrom, badPayload, refusalTo}
 use Rattle.frames.specs.Body.{Body}
-use Rattle.frames.proofs.Items.{items-first, bad-items}
-
--- the first of two numbers, where it is not 0
-or-first : (m n : ℕ) → (m ≡ 0 → ⊥) → orElse m n ≡ m
-or-first zero n z = absurd (z refl)
-or-first (suc m) n z = refl
+use Rattle.frames.proofs.Items.{items-first, sheet-later, bad-items}
 
 pub kept-bounds : (n : ℕ) → kept n ≡ true → (2 ≤ n) × (n ≤ longestBody)
 unfolding kept
@@ -59,20 +56,20 @@ module _ (n : ℕ) (b : List ℕ) where
       module _ (k : isKind (getD b 1 0) ≡ true) where
         pub own-refusal : {m : ℕ} → m ≡ kindOf (getD b 1 0) .own (drop 2 b) → (m ≡ 0 → ⊥) → refusalTo n b ≡ m
         unfolding refusalTo
-        own-refusal {m} e z = rw (le-ltb n 2 l, le-ltb longestBody n h, eq-eqb (getD b 0 0) 1 v, k, ← e) (or-first m _ z)
+        own-refusal {m} e z = rw (le-ltb n 2 l, le-ltb longestBody n h, eq-eqb (getD b 0 0) 1 v, k, ← e) (or-bad m _ z)
 
         module _ (o : kindOf (getD b 1 0) .own (drop 2 b) ≡ 0) where
           pub bad-payload : badPayload (getD b 1 0) (n - 2) ≡ true → refusalTo n b ≡ 5
           unfolding refusalTo
           bad-payload e = rw (le-ltb n 2 l, le-ltb longestBody n h, eq-eqb (getD b 0 0) 1 v, k, o, e) refl
 
-          pub no-refusal : badPayload (getD b 1 0) (n - 2) ≡ false → refusalTo n b ≡ 0
+          pub later-refusal : badPayload (getD b 1 0) (n - 2) ≡ false → refusalTo n b ≡ kindOf (getD b 1 0) .later (drop 2 b)
           unfolding refusalTo
-          no-refusal e = rw (le-ltb n 2 l, le-ltb longestBody n h, eq-eqb (getD b 0 0) 1 v, k, o, e) refl
+          later-refusal e = rw (le-ltb n 2 l, le-ltb longestBody n h, eq-eqb (getD b 0 0) 1 v, k, o, e) refl
 
 -- ---- the numbers
 
--- what holds of 0, 1 to 5 and 11 holds of every refusal of a sender
+-- what holds of 0, 1 to 5, 11, 14 and 15 holds of every refusal of a sender
 module _ (P : ℕ → Type 0) where
   cond-by : (t : Bool) {x y : ℕ} → P x → P y → P (cond t x y)
   cond-by true h k = h
@@ -95,17 +92,30 @@ module _ (P : ℕ → Type 0) where
     own-by (suc (suc (suc zero))) [] = none
     own-by (suc (suc (suc zero))) (b ∷ p) = direction-by (directionOf b)
     own-by (suc (suc (suc (suc zero)))) p = none
-    own-by (suc (suc (suc (suc (suc kind))))) p = none
+    own-by (suc (suc (suc (suc (suc zero))))) p = none
+    own-by (suc (suc (suc (suc (suc (suc kind)))))) p = none
 
-    pub refusal-by : P 1 → P 2 → P 3 → P 4 → P 5 → (n : ℕ) (b : List ℕ) → P (refusalTo n b)
-    unfolding refusalTo
-    refusal-by p1 p2 p3 p4 p5 n b =
-        cond-by (ltb n 2) p1
-        (cond-by (ltb longestBody n) p2
-        (cond-by (not (eqb (getD b 0 0) 1)) p3
-        (cond-by (not (isKind (getD b 1 0))) p4
-        (or-by (kindOf (getD b 1 0) .own (drop 2 b)) (own-by (getD b 1 0) (drop 2 b))
-        (cond-by (badPayload (getD b 1 0) (n - 2)) p5 none)))))
+    module _ (form : P 14) (number : P 15) where
+      later-by : (kind : ℕ) (payload : List ℕ) → P (kindOf kind .later payload)
+      unfolding kindOf
+      later-by zero p = none
+      later-by (suc zero) p = none
+      later-by (suc (suc zero)) p = none
+      later-by (suc (suc (suc zero))) p = none
+      later-by (suc (suc (suc (suc zero)))) p = none
+      later-by (suc (suc (suc (suc (suc zero))))) p = sheet-by P none form number p
+      later-by (suc (suc (suc (suc (suc (suc kind)))))) p = none
+
+      pub refusal-by : P 1 → P 2 → P 3 → P 4 → P 5 → (n : ℕ) (b : List ℕ) → P (refusalTo n b)
+      unfolding refusalTo
+      refusal-by p1 p2 p3 p4 p5 n b =
+          cond-by (ltb n 2) p1
+          (cond-by (ltb longestBody n) p2
+          (cond-by (not (eqb (getD b 0 0) 1)) p3
+          (cond-by (not (isKind (getD b 1 0))) p4
+          (or-by (kindOf (getD b 1 0) .own (drop 2 b)) (own-by (getD b 1 0) (drop 2 b))
+          (cond-by (badPayload (getD b 1 0) (n - 2)) p5
+          (later-by (getD b 1 0) (drop 2 b)))))))
 
 -- a sender's number, or 0: none of 6 to 10, by which calls, the stream's end and texts are refused
 abbrev pub Senders : ℕ → Type 0
@@ -113,7 +123,7 @@ Senders n = (n ≤ 5) ⊎ (11 ≤ n)
 
 pub refusal-senders : (n : ℕ) (b : List ℕ) → Senders (refusalTo n b)
 refusal-senders =
-    refusal-by Senders (inl (omega arith)) (inr (omega arith)) (inl (omega arith)) (inl (omega arith)) (inl (omega arith)) (inl (omega arith)) (inl (omega arith))
+    refusal-by Senders (inl (omega arith)) (inr (omega arith)) (inr (omega arith)) (inr (omega arith)) (inl (omega arith)) (inl (omega arith)) (inl (omega arith)) (inl (omega arith)) (inl (omega arith))
 
 -- what is not refused has a length that is kept
 pub good-length : (n : ℕ) (b : List ℕ) → refusalTo n b ≡ 0 → (2 ≤ n) × (n ≤ longestBody)
@@ -125,26 +135,30 @@ good-length n b e = go (ltb n 2) (ltb longestBody n) refl refl
     go false true f g = let z : _≡_ {A = ℕ} 2 0 = rw (f, g) at e in absurd (omega arith)
     go false false f g = (ltb-false n 2 f, ltb-false longestBody n g)
 
--- and version 1 and a payload that its kind has
-good-parts : (n : ℕ) (b : List ℕ) → refusalTo n b ≡ 0 → (eqb (getD b 0 0) 1 ≡ true) × (badPayload (getD b 1 0) (n - 2) ≡ false)
+-- and version 1, a payload that its kind has, and no refusal after 5
+good-parts : (n : ℕ) (b : List ℕ) → refusalTo n b ≡ 0 → (eqb (getD b 0 0) 1 ≡ true) × (badPayload (getD b 1 0) (n - 2) ≡ false) × (kindOf (getD b 1 0) .later (drop 2 b) ≡ 0)
 unfolding refusalTo
 good-parts n b e =
-    go (ltb n 2) (ltb longestBody n) (eqb (getD b 0 0) 1) (isKind (getD b 1 0)) (kindOf (getD b 1 0) .own (drop 2 b)) (badPayload (getD b 1 0) (n - 2)) e
+    go (ltb n 2) (ltb longestBody n) (eqb (getD b 0 0) 1) (isKind (getD b 1 0)) (kindOf (getD b 1 0) .own (drop 2 b)) (badPayload (getD b 1 0) (n - 2)) (kindOf (getD b 1 0) .later (drop 2 b)) e
   where
-    go : (s t v k : Bool) (m : ℕ) (p : Bool) → cond s 1 (cond t 2 (cond (not v) 3 (cond (not k) 4 (orElse m (cond p 5 0))))) ≡ 0 → (v ≡ true) × (p ≡ false)
-    go true t v k m p f = absurd (omega arith)
-    go false true v k m p f = absurd (omega arith)
-    go false false false k m p f = absurd (omega arith)
-    go false false true false m p f = absurd (omega arith)
-    go false false true true (suc m) p f = absurd (omega arith)
-    go false false true true zero true f = absurd (omega arith)
-    go false false true true zero false f = (refl, refl)
+    go : (s t v k : Bool) (m : ℕ) (p : Bool) (l : ℕ) → cond s 1 (cond t 2 (cond (not v) 3 (cond (not k) 4 (orElse m (cond p 5 l))))) ≡ 0 → (v ≡ true) × (p ≡ false) × (l ≡ 0)
+    go true t v k m p l f = absurd (omega arith)
+    go false true v k m p l f = absurd (omega arith)
+    go false false false k m p l f = absurd (omega arith)
+    go false false true false m p l f = absurd (omega arith)
+    go false false true true (suc m) p l f = absurd (omega arith)
+    go false false true true zero true l f = absurd (omega arith)
+    go false false true true zero false l f = (refl, refl, f)
 
 pub good-version : (n : ℕ) (b : List ℕ) → refusalTo n b ≡ 0 → getD b 0 0 ≡ 1
 good-version n b e = eqb-true (getD b 0 0) 1 (good-parts n b e .0)
 
 pub good-payload : (n : ℕ) (b : List ℕ) → refusalTo n b ≡ 0 → badPayload (getD b 1 0) (n - 2) ≡ false
 good-payload n b e = good-parts n b e .1
+
+-- of a sheet no line is bad
+pub good-lines : (n : ℕ) (b : List ℕ) → refusalTo n b ≡ 0 → getD b 1 0 ≡ 5 → sheetRefusal (drop 2 b) ≡ 0
+good-lines n b e k = sym (sheet-later k (drop 2 b)) ∙ good-parts n b e .2
 
 -- so its items start within it
 either : (s t : Bool) → s || t ≡ false → s ≡ false

@@ -1,4 +1,4 @@
--- Frames (document 01, "A delivery enters"; document 02, A.3 and A.6): length and body, the kinds, and the sender's refusals in their order.
+-- Frames (document 01, "A delivery enters"; document 02, A.3, A.6 and A.8): length and body, the kinds, and the sender's refusals in their order.
 -- It goes on with the answer to a whole frame in crates/answers/specs/Answers.antt. Definitions only.
 use Prim.Native.Nat.{ℕ, zero, suc, _+_, _*_, _/_, _%_, _-_}
 use mathlib.Core.List.{List, [], _∷_}
@@ -8,6 +8,7 @@ use lib.Dec.{ltb, leb, eqb}
 use Rattle.rounding.specs.Named.{directionOf}
 use Rattle.rounding.specs.declared.Named.{Named}
 use Rattle.rounding.specs.declared.Named.the-variants.{Known, Unknown}
+use Rattle.sheets.specs.Sheet.{lineBytes, orElse, sheetRefusal}
 
 -- the longest body that is answered and that the state keeps
 abbrev pub longestBody : ℕ
@@ -33,21 +34,26 @@ kept n = leb 2 n && leb n longestBody
 
 -- ---- kinds
 
--- what belongs to a kind: the bytes that precede its items, its own refusal of a payload or 0, the bytes of an item, and the lengths of a
--- payload that it does not have
+-- what belongs to a kind: the bytes that precede its items, its own refusal of a payload before 5 or 0, the bytes of an item, the lengths of a
+-- payload that it does not have, and its own refusal after 5 or 0
 pub record Kind : Type 0 where
   pub before : ℕ
   pub own : List ℕ → ℕ
   pub item : ℕ
   pub bad : ℕ → Bool
+  pub later : List ℕ → ℕ
 
 -- in n bytes nothing comes behind what precedes the items, or no multiple of an item
 abbrev pub noItems : ℕ → ℕ → ℕ → Bool
 noItems before item n = leb n before || not (eqb ((n - before) % item) 0)
 
+-- no refusal of its own
+abbrev pub none : List ℕ → ℕ
+none payload = 0
+
 -- items alone
 abbrev pub plain : ℕ → Kind
-plain size = record { before = 0; own = λ payload. 0; item = size; bad = noItems 0 size }
+plain size = record { before = 0; own = none; item = size; bad = noItems 0 size; later = none }
 
 -- a direction byte, refused by 11 where it names none, and then triples; an empty payload has no such byte
 abbrev pub directionRefusal : Named → ℕ
@@ -59,15 +65,19 @@ badDirection [] = 0
 badDirection (b ∷ payload) = directionRefusal (directionOf b)
 
 abbrev pub directed : Kind
-directed = record { before = 1; own = badDirection; item = 24; bad = noItems 1 24 }
+directed = record { before = 1; own = badDirection; item = 24; bad = noItems 1 24; later = none }
 
 -- no payload; it has no items, and their bytes are not asked
 abbrev pub bare : Kind
-bare = record { before = 0; own = λ payload. 0; item = 24; bad = λ n. not (eqb n 0) }
+bare = record { before = 0; own = none; item = 24; bad = λ n. not (eqb n 0); later = none }
 
--- by their numbers from 1 on: 8-byte weights; 24-byte triples; triples in a direction; a report
+-- lines, of which the first bad one decides
+abbrev pub sheet : Kind
+sheet = record { before = 0; own = none; item = lineBytes; bad = noItems 0 lineBytes; later = sheetRefusal }
+
+-- by their numbers from 1 on: 8-byte weights; 24-byte triples; triples in a direction; a report; a sheet
 abbrev pub kinds : List Kind
-kinds = plain 8 ∷ plain 24 ∷ directed ∷ bare ∷ []
+kinds = plain 8 ∷ plain 24 ∷ directed ∷ bare ∷ sheet ∷ []
 
 unfoldable pub isKind : ℕ → Bool
 isKind zero = false
@@ -94,11 +104,6 @@ itemCount kind n = (n - itemsFrom kind) / itemBytes kind
 unfoldable pub badPayload : ℕ → ℕ → Bool
 badPayload kind n = kindOf kind .bad n
 
--- the first of two numbers that is not 0, or 0
-abbrev pub orElse : ℕ → ℕ → ℕ
-orElse zero n = n
-orElse (suc m) n = suc m
-
 -- the first refusal that a body of n bytes meets, or 0
 unfoldable pub refusalTo : ℕ → List ℕ → ℕ
 refusalTo n body =
@@ -108,7 +113,7 @@ refusalTo n body =
     (cond (not (isKind (getD body 1 0))) 4
     (orElse (kindOf (getD body 1 0) .own (drop 2 body))
     (cond (badPayload (getD body 1 0) (n - 2)) 5
-    0)))))
+    (kindOf (getD body 1 0) .later (drop 2 body)))))))
 
 -- 00 02 01 and the number
 abbrev pub refusalFrame : ℕ → List ℕ

@@ -12,6 +12,7 @@ ghost use Rattle.frames.specs.Body.{Body};
 ghost use Rattle.frames.specs.Part.{Part, payloadFrom};
 use rounding::BAD_DIRECTION;
 use rounding::Named;
+use sheets::LINE_BYTES;
 
 // The longest body that is answered, and not refused by its length.
 pub const LONGEST_BODY: usize = 514;
@@ -21,7 +22,7 @@ pub const ANSWER_ROOM: usize = 516;
 const REFUSAL_BYTES: usize = 4;
 
 const VERSION: u8 = 1;
-// The kinds: scores, a * b + c to nearest, and in a direction, and a report.
+// The kinds: scores, a * b + c to nearest, and in a direction, a report, and a sheet.
 pub const SCORES: u8 = 1;
 
 const FUSED: u8 = 2;
@@ -29,6 +30,8 @@ const FUSED: u8 = 2;
 pub const DIRECTED: u8 = 3;
 
 pub const REPORT: u8 = 4;
+
+pub const SHEET: u8 = 5;
 
 // From a body's third byte to its end; a body under 2 bytes gives its own empty end.
 pub fn payload(body: &[u8]) -> &[u8]
@@ -47,8 +50,9 @@ pub fn items_from(kind: u8) -> usize
     if kind == DIRECTED { 1 } else { 0 }
 }
 
-// The bytes of one item of a kind.
+// The bytes of one item of a kind that is no sheet. A sheet's are asked for apart, so that lengths are divided by constants.
 pub fn item_bytes(kind: u8) -> usize
+    requires { ⌜ (kind ≡ 5 → ⊥) ⌝ }
     ensures { λ r. ⌜ (r ≡ itemBytes kind) × (8 ≤ r) × (r ≤ 24) ⌝ }
 {
     if kind == SCORES {
@@ -62,9 +66,12 @@ pub fn item_count(kind: u8, n: usize) -> usize
     requires { ⌜ itemsFrom kind ≤ n ⌝ }
     ensures { λ r. ⌜ (r ≡ itemCount kind n) × (8 * r ≤ n) ⌝ }
 {
-    // Apart, so that either is a division by a constant.
+    // Apart too, for the same reason.
     if kind == SCORES {
         return n / item_bytes(kind);
+    }
+    if kind == SHEET {
+        return n / LINE_BYTES;
     }
     (n - items_from(kind)) / item_bytes(kind)
 }
@@ -73,7 +80,7 @@ fn is_kind(kind: u8) -> bool
     ensures { λ r. ⌜ r ≡ isKind kind ⌝ }
 {
     match kind {
-        SCORES | FUSED | DIRECTED | REPORT => true,
+        SCORES | FUSED | DIRECTED | REPORT | SHEET => true,
         _ => false,
     }
 }
@@ -89,7 +96,7 @@ fn bad_direction(byte: u8) -> u8
     }
 }
 
-// A kind's own refusal of a payload, or 0.
+// A kind's own refusal of a payload before 5, or 0.
 fn own_refusal(kind: u8, payload: &[u8]) -> u8
     ensures { λ r. ⌜ r ≡ kindOf kind .own (now (payload .entry)) ⌝ }
 {
@@ -115,6 +122,9 @@ fn bad_payload(kind: u8, n: usize) -> bool
     if n <= from {
         return true;
     }
+    if kind == SHEET {
+        return n % LINE_BYTES != 0;
+    }
     (n - from) % item_bytes(kind) != 0
 }
 
@@ -134,12 +144,16 @@ pub fn refusal_to(n: usize, body: &[u8]) -> u8
     }
     let kind = body[1];
     if is_kind(kind) {
-        let own = own_refusal(kind, payload(body));
+        let rest = payload(body);
+        let own = own_refusal(kind, rest);
         if own != 0 {
             return own;
         }
         if bad_payload(kind, n - 2) {
             return 5;
+        }
+        if kind == SHEET {
+            return sheets::refusal(rest);
         }
         return 0;
     }

@@ -1,6 +1,6 @@
 -- What is shown goes on by what is shown alone. Assumes nothing.
 use Prim.Native.Nat.{ℕ, _+_, _≤_}
-use mathlib.Core.Path.{_≡_, refl, sym, ap, ap₂, subst, _∙_}
+use mathlib.Core.Path.{_≡_, refl, sym, ap, ap₂, _∙_}
 use mathlib.Core.List.{List}
 use mathlib.Core.Bool.{true}
 use native.Mathlib.Omega.{arith}
@@ -9,10 +9,11 @@ use Rattle.frames.proofs.Refusals.{refusal-by}
 use Rattle.counts.specs.Counts.{isAccepted, isRefused, oneIf, most, stopped, added, shownNext}
 use Rattle.counts.specs.declared.Counts.{Counts}
 use Rattle.counts.proofs.Shown.{shown-next, added-more, next-accepted, next-refused}
-use Rattle.answers.specs.Answers.{Answer, answerOf}
+use Rattle.answers.specs.Answers.{answerOf}
 use Rattle.answers.specs.Written.{Written}
 use Rattle.answers.proofs.Answers.{answer-refusal}
 use Rattle.memory.specs.Memory.{Memory, viewOf, Sized, answerWith, remembered, answerBy, viewBy, viewAdded, viewWith}
+use Rattle.memory.specs.Answers.{Answers}
 use Rattle.memory.specs.declared.View.{View}
 
 abbrev pub showing : Counts → View
@@ -27,9 +28,10 @@ view-after f m = ap showing (shown-next (answerWith (viewOf m) f .number) m)
 pub view-by : (v : View) (n : ℕ) (body : List ℕ) {k : ℕ} {c : Counts} → k ≡ refusalTo n body → c ≡ shownNext k (v .counts) → showing c ≡ viewBy v n body
 view-by v n body e c = ap showing (c ∙ ap (λ (m : ℕ). shownNext m (v .counts)) (e ∙ sym (answer-refusal (v .counts) n body)))
 
--- the same answer, written
-pub written-as : {a b : Answer} {n : ℕ} {before after : List ℕ} → a ≡ b → Written a n before after → Written b n before after
-written-as {a} {b} {n} {before} {after} e w = subst (λ (x : Answer). Written x n before after) e w
+-- the answer is written, and what follows from its refusal
+pub responds : (v : View) (n : ℕ) (body : List ℕ) {k len : ℕ} {c : Counts} {before after : List ℕ} → k ≡ refusalTo n body → c ≡ shownNext k (v .counts)
+    → Written (answerBy v n body) len before after → Answers v n body (record { view = showing c; len = len; refusal = k }) before after
+responds v n body e f w = record { written = w; refusal = e ∙ sym (answer-refusal (v .counts) n body); view = view-by v n body e f }
 
 -- ---- frames that are counted later
 
@@ -37,7 +39,7 @@ written-as {a} {b} {n} {before} {after} e w = subst (λ (x : Answer). Written x 
 refused-counts : (n : ℕ) (body : List ℕ) → (refusalTo n body ≡ 0 → ⊥) → isRefused (refusalTo n body) ≡ true
 unfolding isRefused
 refused-counts n body =
-    refusal-by (λ (k : ℕ). (k ≡ 0 → ⊥) → isRefused k ≡ true) (λ z. absurd (z refl)) (λ z. refl) (λ z. refl) (λ z. refl) (λ z. refl) (λ z. refl) (λ z. refl) n body
+    refusal-by (λ (k : ℕ). (k ≡ 0 → ⊥) → isRefused k ≡ true) (λ z. absurd (z refl)) (λ z. refl) (λ z. refl) (λ z. refl) (λ z. refl) (λ z. refl) (λ z. refl) (λ z. refl) (λ z. refl) n body
 
 pub added-none : (v : View) → Sized v → viewAdded 0 0 v ≡ v
 unfolding stopped

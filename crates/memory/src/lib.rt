@@ -10,6 +10,7 @@ ghost use Rattle.memory.specs.Memory.{startMemory, viewOf, isView, viewA
 ghost use Rattle.memory.specs.Answers.{Answers};
 use counts::Counts;
 use frames::REPORT;
+use frames::SHEET;
 
 // A field for each thing that lasts.
 #[repr(C)]
@@ -53,8 +54,17 @@ pub fn respond(view: View, n: usize, body: &[u8], answer: &mut [u8]) -> Answered
             refusal,
         };
     }
-    if body[1] == REPORT {
+    let kind = body[1];
+    if kind == REPORT {
         let len = answers::write_report(view.counts, answer);
+        return Answered {
+            view: after,
+            len,
+            refusal,
+        };
+    }
+    if kind == SHEET {
+        let len = answers::write_sheet(n, body, answer);
         return Answered {
             view: after,
             len,

@@ -9,12 +9,12 @@ use Rattle.words.specs.Bytes.{numberAt}
 use Rattle.frames.specs.Frame.{answerRoom, refusalTo, refusalFrame}
 use Rattle.answers.specs.Answers.{accepting, itemsIn}
 use Rattle.answers.specs.Written.{Written}
-use Rattle.answers.proofs.Answers.{answer-refusal, answer-items, refusal-written}
+use Rattle.answers.proofs.Answers.{answer-refusal, answer-items, written-as, refusal-written}
 use Rattle.memory.specs.Memory.{Sized, viewAdded}
 use Rattle.memory.specs.Answers.{Answers as Responds}
 use Rattle.memory.specs.declared.View.{View}
 use Rattle.memory.specs.declared.Answered.{Answered}
-use Rattle.memory.proofs.Memory.{written-as, added-none, added-after, added-refused, added-accepted}
+use Rattle.memory.proofs.Memory.{added-none, added-after, added-refused, added-accepted}
 use Rattle.runs.specs.Runs.{Answers, AnswersCounted}
 use Rattle.runs.specs.declared.Counted.{Counted}
 use Rattle.runs.proofs.Frames.{bodyAt, no-frames, one-more-frame}

@@ -25,7 +25,7 @@ struct Counted {
 
 // Answers the whole frames at the piece's front while there is room for one more answer. They are read where they stand: a state for
 // each of them would be copied several times. Frames are counted here, and added where a report asks for it, and respond is called for
-// reports alone: what is shown goes through memory then, which takes longer than a refusal.
+// reports and sheets alone: what is shown goes through memory then, which takes longer than a refusal.
 fn answer_frames(view: View, piece: &[u8], answers: &mut [u8]) -> Counted
     ensures { λ r. ⌜ AnswersCounted view (now (piece .entry)) r (now (answers .entry)) (now (answers .exit)) ⌝ }
 {
@@ -62,7 +62,7 @@ fn answer_frames(view: View, piece: &[u8], answers: &mut [u8]) -> Counted
         if refusal != 0 {
             len += frames::write_refusal(refusal, &mut answers[len..]);
             refused += 1;
-        } else if body[1] == REPORT {
+        } else if body[1] >= REPORT {
             view = memory::add(view, accepted, refused);
             accepted = 0;
             refused = 0;

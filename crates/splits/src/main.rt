@@ -59,14 +59,14 @@ fn next(n: u64) -> u64 {
     n + 1
 }
 
-// With an answer of this code: 0 is accepted, and 1 to 5 and 11 are refused.
+// With an answer of this code: 0 is accepted, and 1 to 5, 11, 14 and 15 are refused.
 fn tallied(tally: Tally, code: u8) -> Tally {
     let mut tally = tally;
     if code == 0 {
         tally.accepted = next(tally.accepted);
         tally.total = next(tally.total);
     }
-    if 1 <= code && code <= 5 || code == 11 {
+    if 1 <= code && code <= 5 || code == 11 || code == 14 || code == 15 {
         tally.refused = next(tally.refused);
         tally.total = next(tally.total);
     }

@@ -6,7 +6,7 @@ use mathlib.Core.List.{List, [], _∷_, _++_}
 use native.Mathlib.Omega.{arith}
 use lib.ListN.{length, take, drop, replicate}
 use lib.Ieee.{ofBits, toBits}
-use Rattle.words.specs.Bytes.{numberAt, wordBytes}
+use Rattle.words.specs.Bytes.{numberAt, wordBytes, wordsOf}
 use Rattle.exp2m1.specs.Score.{steps, scoreBits}
 use Rattle.counts.specs.Counts.{isRefused, stopped, isSum}
 use Rattle.frames.specs.Frame.{answerRoom, whole, kept, isKind, kindOf, badPayload, refusalTo, refusalFrame}
@@ -39,7 +39,7 @@ pub whole-case :
     (outputOf freshState (take 5 input ∷ drop 5 input ∷ []) room room ≡ minusOne ++ (refusalFrame 1 ++ refusalFrame 8))
     × ByTakes [] input 12 minusOne (stateWith (freshState .frame) (record { counts = record { accepted = 1; refused = 0; total = 1 } }))
     × (length room < 12 + answerRoom)
-unfolding handOn deliveryOf closeOf isGood bookOf isLeft bytesIn placesOf keptBytes whole kept refusalTo isKind kindOf badPayload resultAt resultsOf itemsIn accepted answerTo answerOf scoreBits steps ofBits toBits numberAt wordBytes isRefused stopped isSum
+unfolding handOn deliveryOf closeOf isGood bookOf isLeft bytesIn placesOf keptBytes whole kept refusalTo isKind kindOf badPayload resultAt resultsOf wordsOf itemsIn accepted answerTo answerOf scoreBits steps ofBits toBits numberAt wordBytes isRefused stopped isSum
 whole-case = (refl, streams .takes [] input room refl, streams .stops [] input room refl (omega arith))
 
 pub large-buffers : AllLarge (whole-case .1 .buffers)

@@ -9,7 +9,7 @@ use lib.ListN.{length, getD, take, drop, length-drop}
 use lib.Seq.{drop-cons, take-add, drop-drop, length-take-le}
 use Rattle.words.specs.Bytes.{numberAfter, numberAt, wordBytes}
 
-after-append : (a : ℕ) (xs ys : List ℕ) → numberAfter a (xs ++ ys) ≡ numberAfter (numberAfter a xs) ys
+pub after-append : (a : ℕ) (xs ys : List ℕ) → numberAfter a (xs ++ ys) ≡ numberAfter (numberAfter a xs) ys
 after-append a [] ys = refl
 after-append a (x ∷ xs) ys = after-append (a * 256 + x) xs ys
 

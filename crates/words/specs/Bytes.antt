@@ -20,3 +20,9 @@ lastBytes (suc n) x = lastBytes n (x / 256) ++ (x % 256 ∷ [])
 -- a 64-bit word
 unfoldable pub wordBytes : ℕ → List ℕ
 wordBytes x = lastBytes 8 x
+
+-- f 0 to f (n - 1) as 64-bit words, one behind the other
+unfoldable pub wordsOf : (ℕ → ℕ) → ℕ → List ℕ
+unfolding wordBytes
+wordsOf f zero = []
+wordsOf f (suc n) = wordsOf f n ++ wordBytes (f n)

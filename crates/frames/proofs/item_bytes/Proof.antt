@@ -9,7 +9,7 @@ returns : tie.Need-returns
 returns c = (sym (item-one (c .if1 .taken)), omega arith, omega arith)
 
 returns-2 : tie.Need-returns-2
-returns-2 c = (sym (item-other _ (c .if1 .left)), omega arith, omega arith)
+returns-2 c = (sym (item-other _ (c .if1 .left) (c .before .pre)), omega arith, omega arith)
 
 pub item-bytes-spec : {M : Type 1} → statement M
 item-bytes-spec = tie.close (tie.spec returns returns-2)

@@ -2,8 +2,8 @@
 use mathlib.Core.Path.{sym, _∙_}
 use native.Mathlib.Omega.{arith}
 use Rattle.frames.proofs.Refusals.{good-length, body-length}
-use Rattle.answers.proofs.Answers.{answer-refusal, answer-report, answer-items, refusal-written}
-use Rattle.memory.proofs.Memory.{written-as, view-by}
+use Rattle.answers.proofs.Answers.{answer-report, answer-items, written-as, refusal-written}
+use Rattle.memory.proofs.Memory.{responds}
 use borrow.Author.Needs.{needs}
 use Rattle.memory.proofs.respond.Statement.{statement}
 use Rattle.memory.proofs.respond.Tie as tie
@@ -22,26 +22,21 @@ same-length c = search needs
 
 returns : tie.Need-returns
 returns c =
-    let s = c .before .before .before .before .before .before .before .before .before in
-    let v = s .args .view in
-    let n = s .args .n in
-    let body = s .args .body .now in
-    let e = c .before .before .before .before .before .before .refusal-to .ensures in
+    let t = c .before .before .before .before in
+    let r = t .before .before in
+    let s = r .before .before .before in
     let w = c .before .before .write-refusal in
-    record {
-      written = refusal-written (v .counts) n body (s .args .answer .now) _ e (c .before .before .before .before .if1 .taken) (w .ensures .0) (w .ensures .1);
-      refusal = e ∙ sym (answer-refusal (v .counts) n body);
-      view = view-by v n body e (c .before .before .before .before .before .counted .ensures);
-    }
+    let e = r .refusal-to .ensures in
+    responds (s .args .view) (s .args .n) (s .args .body .now) e (t .before .counted .ensures)
+    (refusal-written (s .args .view .counts) (s .args .n) (s .args .body .now) (s .args .answer .now) _ e (t .if1 .taken) (w .ensures .0) (w .ensures .1))
 
-shared-slice-read-if2 : tie.Need-shared-slice-read-if2
-shared-slice-read-if2 c =
-    let s = c .before .before .before .before .before .before in
-    let v = s .args .view in
+shared-slice-read-kind : tie.Need-shared-slice-read-kind
+shared-slice-read-kind c =
+    let r = c .before .before .before in
+    let s = r .before .before .before in
     let n = s .args .n in
     let body = s .args .body .now in
-    let e = c .before .before .before .refusal-to .ensures in
-    let g = good-length n body (sym e ∙ c .before .if1 .left) in
+    let g = good-length n body (sym (r .refusal-to .ensures) ∙ c .before .if1 .left) in
     omega (arith, body-length n body (g .0) (g .1) (s .pre .0))
 
 write-report-requires : tie.Need-write-report-requires
@@ -52,37 +47,45 @@ same-length-2 c = search needs
 
 returns-2 : tie.Need-returns-2
 returns-2 c =
-    let s = c .before .before .before .before .before .before .before .before .before .before .before in
-    let v = s .args .view in
-    let n = s .args .n in
-    let body = s .args .body .now in
-    let e = c .before .before .before .before .before .before .before .before .refusal-to .ensures in
-    let z = sym e ∙ c .before .before .before .before .before .before .if1 .left in
-    record {
-      written = written-as (sym (answer-report (v .counts) n body z (c .before .before .before .before .if2 .taken))) (c .before .before .write-report .ensures);
-      refusal = e ∙ sym (answer-refusal (v .counts) n body);
-      view = view-by v n body e (c .before .before .before .before .before .before .before .counted .ensures);
-    }
+    let t = c .before .before .before .before in
+    let f = t .before .before in
+    let r = f .before .before in
+    let s = r .before .before .before in
+    let e = r .refusal-to .ensures in
+    responds (s .args .view) (s .args .n) (s .args .body .now) e (f .before .counted .ensures)
+    (written-as (sym (answer-report (s .args .view .counts) (s .args .n) (s .args .body .now) (sym e ∙ f .if1 .left) (t .if2 .taken))) (c .before .before .write-report .ensures))
 
-write-answer-requires : tie.Need-write-answer-requires
-write-answer-requires c κs = search needs
+write-sheet-requires : tie.Need-write-sheet-requires
+write-sheet-requires c κs = search needs
 
 same-length-3 : tie.Need-same-length-3
 same-length-3 c = search needs
 
 returns-3 : tie.Need-returns-3
 returns-3 c =
-    let s = c .before .before .before .before .before .before .before .before .before .before .before in
-    let v = s .args .view in
-    let n = s .args .n in
-    let body = s .args .body .now in
-    let e = c .before .before .before .before .before .before .before .before .refusal-to .ensures in
-    let z = sym e ∙ c .before .before .before .before .before .before .if1 .left in
-    record {
-      written = written-as (sym (answer-items (v .counts) n body z (c .before .before .before .before .if2 .left))) (c .before .before .write-answer .ensures);
-      refusal = e ∙ sym (answer-refusal (v .counts) n body);
-      view = view-by v n body e (c .before .before .before .before .before .before .before .counted .ensures);
-    }
+    let t = c .before .before .before .before .before in
+    let f = t .before .before in
+    let r = f .before .before in
+    let s = r .before .before .before in
+    let e = r .refusal-to .ensures in
+    responds (s .args .view) (s .args .n) (s .args .body .now) e (f .before .counted .ensures)
+    (written-as (sym (answer-items (s .args .view .counts) (s .args .n) (s .args .body .now) (sym e ∙ f .if1 .left) (t .if2 .left))) (c .before .before .write-sheet .ensures))
+
+write-answer-requires : tie.Need-write-answer-requires
+write-answer-requires c κs = search needs
+
+same-length-4 : tie.Need-same-length-4
+same-length-4 c = search needs
+
+returns-4 : tie.Need-returns-4
+returns-4 c =
+    let t = c .before .before .before .before .before in
+    let f = t .before .before in
+    let r = f .before .before in
+    let s = r .before .before .before in
+    let e = r .refusal-to .ensures in
+    responds (s .args .view) (s .args .n) (s .args .body .now) e (f .before .counted .ensures)
+    (written-as (sym (answer-items (s .args .view .counts) (s .args .n) (s .args .body .now) (sym e ∙ f .if1 .left) (t .if2 .left))) (c .before .before .write-answer .ensures))
 
 pub respond-spec : {M : Type 1} → statement M
 respond-spec =
@@ -93,10 +96,13 @@ respond-spec =
     write-refusal-requires
     same-length
     returns
-    shared-slice-read-if2
+    shared-slice-read-kind
     write-report-requires
     same-length-2
     returns-2
-    write-answer-requires
+    write-sheet-requires
     same-length-3
-    returns-3)
+    returns-3
+    write-answer-requires
+    same-length-4
+    returns-4)

@@ -153,13 +153,13 @@ write-answer-requires : tie.Need-write-answer-requires Inv-loop μ-loop
 write-answer-requires c κs =
     let l = c .before .before .before .before .before .before .before .before .before .before in
     let r = c .before .before .before .before .before .before .before in
-    ((λ k. body-length (l .before .before .before .args .piece .now) (l .loop .used) (r .read-u16 .result) (omega arith)), sym (c .before .before .before .before .refusal-to .ensures) ∙ c .before .before .before .if3 .left, omega (arith, ap length (to-end (l .loop .len) (l .loop .answers)), length-drop (l .loop .len) (l .loop .answers)))
+    ((λ k. body-length (l .before .before .before .args .piece .now) (l .loop .used) (r .read-u16 .result) (omega arith)), sym (c .before .before .before .before .refusal-to .ensures) ∙ c .before .before .before .if3 .left, (λ e. let z : ⊥ = omega (arith, c .before .if4 .left) in z), omega (arith, ap length (to-end (l .loop .len) (l .loop .answers)), length-drop (l .loop .len) (l .loop .answers)))
 
 loop-again-3 : tie.Need-loop-again-3 Inv-loop μ-loop
 loop-again-3 c =
     let l = c .before .before .before .before .before .before .before .before .before .before .before .before .before in
     let r = c .before .before .before .before .before .before .before .before .before .before in
-    one-accepted (l .loop .inv) (r .read-u16 .result) (omega arith) (r .read-u16 .ensures) (r .before .if1 .left) _ (sym (c .before .before .before .before .before .before .before .refusal-to .ensures) ∙ c .before .before .before .before .before .before .if3 .left) (c .before .before .before .before .if4 .left) (c .before .before .write-answer .ensures)
+    one-accepted (l .loop .inv) (r .read-u16 .result) (omega arith) (r .read-u16 .ensures) (r .before .if1 .left) _ (sym (c .before .before .before .before .before .before .before .refusal-to .ensures) ∙ c .before .before .before .before .before .before .if3 .left) (λ e. let z : ⊥ = omega (arith, c .before .before .before .before .if4 .left) in z) (c .before .before .write-answer .ensures)
 
 add-len-3 : tie.Need-add-len-3 Inv-loop μ-loop
 add-len-3 c = omega (arith, c .before .before .before .before .before .before .before .before .before .before .before .before .before .before .before .before .good .1 .1 .0 .0, loop-again-3 c .run .fits)

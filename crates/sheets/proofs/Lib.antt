@@ -1,0 +1,3 @@
+pub mod FirstBad
+pub mod Lines
+mod Examples

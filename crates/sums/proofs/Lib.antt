@@ -1,0 +1,2 @@
+pub mod FloatSum
+mod Examples
