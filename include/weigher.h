@@ -22,9 +22,10 @@
  * A NaN operand is the result, in calls and in frames alike, with its sign and
  * its payload, the low 51 bits, kept and its top fraction bit, bit 51, set: so
  * an unreadable weight hands the reason in its low bits on to its score. Of
- * several NaNs it is the first among a, b, c. Patterns are integers, so that no
- * bit of a NaN is lost on the way. An invalid operation without a NaN operand,
- * 0 * infinity or infinity - infinity, gives WEIGHER_NAN. */
+ * several NaNs it is the first among a, b, c, and in a sum of two lines of a
+ * household sheet that of the line named first. Patterns are integers, so that
+ * no bit of a NaN is lost on the way. An invalid operation without a NaN
+ * operand, 0 * infinity or infinity - infinity, gives WEIGHER_NAN. */
 #ifndef WEIGHER_H
 #define WEIGHER_H
 
@@ -53,18 +54,20 @@ extern "C" {
 /* The bytes of a buffer that every answer fits into. */
 #define WEIGHER_ANSWER_ROOM 516
 
-/* The numbers of refusals. 1 to 5, 8 and 11 are answers too, the bytes 00 02 01
- * and the number. 6 and 7 refuse a call and are no answers: they are tried
- * first, in this order, and then the call returns the state as it was, with
- * used and len 0, and the buffer keeps its content. 9 and 10 are for texts of
- * constants alone. 11 is for frames of kind 3, which are tried for it after 4
- * and before 5, and for weigher_fused_in. 12 and 13 are for the lists of
- * weigher_score_with alone. */
+/* The numbers of refusals. 1 to 5, 8, 11, 14 and 15 are answers too, the bytes
+ * 00 02 01 and the number. 6 and 7 refuse a call and are no answers: they are
+ * tried first, in this order, and then the call returns the state as it was,
+ * with used and len 0, and the buffer keeps its content. 9 and 10 are for texts
+ * of constants alone. 11 is for frames of kind 3, which are tried for it after
+ * 4 and before 5, and for weigher_fused_in. 12 and 13 are for the lists of
+ * weigher_score_with alone. 14 and 15 are for frames of kind 5, which are tried
+ * for them after 5, line by line: the first bad line decides, and on one line
+ * 14 is tried before 15. */
 enum {
     WEIGHER_SHORT_BODY = 1,     /* the body has under 2 bytes */
     WEIGHER_LONG_BODY = 2,      /* it has over WEIGHER_LONGEST_BODY bytes */
     WEIGHER_BAD_VERSION = 3,    /* the version is not 1 */
-    WEIGHER_BAD_KIND = 4,       /* the kind is not one of 1 to 4 */
+    WEIGHER_BAD_KIND = 4,       /* the kind is not one of 1 to 5 */
     WEIGHER_BAD_PAYLOAD = 5,    /* the payload has no items, or a part of one,
                                    or is a report's and not empty */
     WEIGHER_SMALL_BUFFER = 6,   /* the buffer is under WEIGHER_ANSWER_ROOM */
@@ -74,9 +77,27 @@ enum {
     WEIGHER_INEXACT = 10,       /* its value is not exactly a finite float */
     WEIGHER_BAD_DIRECTION = 11, /* the direction is above WEIGHER_DOWN, 3 */
     WEIGHER_LIST_TOO_LONG = 12, /* the list is over WEIGHER_LONGEST_LIST */
-    WEIGHER_BAD_ENTRY = 13      /* an x, hi or lo is not finite, or an x is 0 or
+    WEIGHER_BAD_ENTRY = 13,     /* an x, hi or lo is not finite, or an x is 0 or
                                    not above the x before it */
+    WEIGHER_BAD_LINE = 14,      /* the first byte of a line is above 1, or one
+                                   of its filler bytes is not 0 */
+    WEIGHER_LATER_LINE = 15     /* a line names its own number or a greater one,
+                                   whether the sheet has that line or not */
 };
+
+/* A frame of kind 5 is a household sheet. Its payload is n lines of 9 bytes, at
+ * most 56, so that its length L is 2 + 9n. A line has one of two forms:
+ *
+ *     0, and a weight of 8 bytes, big-endian
+ *     1, the numbers of two lines, a byte each, and six filler bytes of 0
+ *
+ * Lines are counted from 0, and a line of the second form names lines before it
+ * alone; it may name one twice, and a line may be named by any number of lines.
+ * The value of a line is its weight, or the sum of the values of the two lines
+ * that it names, the first plus the second, rounded to nearest. The answer has
+ * the score of each line's value, in the order of the lines: it is that to a
+ * frame of kind 1 whose weights are the values, and has 4 + 8n bytes. A sheet
+ * with a bad line is refused as a whole. */
 
 /* What has come of the present frame. Places of the body that are not filled
  * hold 0, and a body of under 2 or over WEIGHER_LONGEST_BODY bytes fills
@@ -101,7 +122,7 @@ typedef struct weigher_frame {
  * payload it is refused by 5, and counted as refused. */
 typedef struct weigher_counts {
     uint64_t accepted; /* frames that were answered and not refused */
-    uint64_t refused;  /* frames that were refused by 1 to 5 or 11 */
+    uint64_t refused;  /* frames that were refused by 1 to 5, 11, 14 or 15 */
     uint64_t total;    /* both */
 } weigher_counts;
 
@@ -139,9 +160,9 @@ typedef struct weigher_handed_on {
 weigher_state weigher_fresh(void);
 
 /* Uses the piece up to the end of the first frame that ends in it, or all of
- * it, and answers the frame that ended: refusal is then 0, 1 to 5 or 11. Where
- * none ended, len and refusal are 0. The buffer keeps its content behind the
- * answer. */
+ * it, and answers the frame that ended: refusal is then 0, 1 to 5, 11, 14 or
+ * 15. Where none ended, len and refusal are 0. The buffer keeps its content
+ * behind the answer. */
 weigher_taken weigher_take(weigher_state state,
                            const uint8_t *piece, size_t piece_len,
                            uint8_t *answer, size_t answer_len);

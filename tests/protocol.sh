@@ -75,7 +75,7 @@ awk -v work="$work" '
     END {
         if (failed)
             exit 1
-        split("00020101 00020102 00020103 00020104 00020105 00020108 0002010b 9 10", refusals)
+        split("00020101 00020102 00020103 00020104 00020105 00020108 0002010b 0002010e 0002010f 9 10", refusals)
         for (i in refusals)
             if (!(refusals[i] in codes))
                 fail("no example has the refusal " refusals[i])

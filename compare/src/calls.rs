@@ -9,7 +9,7 @@ use crate::service::{self, FLOAT, LONGEST_BODY, Operations};
 use crate::source::Source;
 use crate::states::{self, Start};
 use crate::tally::{Mismatches, Tally};
-use crate::{machine, payloads, rust, serve};
+use crate::{machine, payloads, rust, serve, sheets};
 
 /// Most calls of one list.
 const CALLS: i64 = 20;
@@ -39,14 +39,15 @@ const WITHOUT_SOURCE: Operations = Operations {
     fused_in: machine::fused_in,
 };
 
-/// Runs so many thousand lists of calls, and as many bodies and payloads; false where a call differs or an outcome never came.
+/// Runs so many thousand lists of calls, and as many sheets, bodies and payloads; false where a call differs or an outcome never came.
 pub fn compare(thousands: u64) -> bool {
     let mut lists = Lists::new();
     for number in 1..=thousands * 1000 {
         lists.run(number);
     }
-    let good = lists.print(thousands * FLOOR_OF_NANS);
-    payloads::compare(thousands) && good
+    let alike = lists.print(thousands * FLOOR_OF_NANS);
+    let good = [sheets::compare, payloads::compare].map(|compare| compare(thousands));
+    alike && good == [true; 2]
 }
 
 struct Lists {
@@ -60,6 +61,7 @@ struct Lists {
     handed_on: Tally,
     directed: Tally,
     reported: Tally,
+    sheets: sheets::Seen,
     ended: Tally,
     nans: Nans,
 }
@@ -78,28 +80,29 @@ impl Lists {
         if ffi::weigher_fresh() != Book::holding(&[]).state() {
             mismatches.report("fresh: not all 0");
         }
-        let operations = if rust::INSTANCES.is_empty() {
+        if rust::INSTANCES.is_empty() {
             println!("calls: the scores are not compared, the Rust source was not there");
-            &WITHOUT_SOURCE
-        } else {
-            &service::REFERENCE
-        };
+        }
         let mut names = states::names();
         names.push(GOOD_BY_CHANCE);
         Lists {
             random: Random::new(8),
-            operations,
+            operations: operations(),
             mismatches,
             states: Tally::new("lists, by the state at the start", &names.join("|")),
-            take: Tally::new("take", "unfinished|answered|1|2|3|4|11|5|6|6 before 7|7"),
+            take: Tally::new(
+                "take",
+                "unfinished|answered|1|2|3|4|11|5|14|15|6|6 before 7|7",
+            ),
             close: Tally::new("close", "nothing|8|6|6 before 7|7"),
             hand_on: Tally::new(
                 "hand_on",
                 "no answer|one answer|many answers|no room for more|6|6 before 7|7",
             ),
-            handed_on: Tally::new("answers of hand_on, by their code", "0|1|2|3|4|11|5"),
+            handed_on: Tally::new("answers of hand_on, by their code", "0|1|2|3|4|11|5|14|15"),
             directed: Tally::new("frames of kind 3, by their payload", DIRECTED),
             reported: Tally::new("frames of kind 4, by their answer", REPORTED),
+            sheets: sheets::Seen::new("frames of kind 5, by their payload"),
             ended: Tally::new(
                 "counts that a call brought to their end",
                 "accepted|refused|total",
@@ -170,7 +173,7 @@ impl Lists {
         }
     }
 
-    /// The frames of kinds 3 and 4, and the NaNs of those that are answered, among the bytes that were held before a call and those that it
+    /// The frames of kinds 3, 4 and 5, and the NaNs of those that are answered, among the bytes that were held before a call and those that it
     /// moved, and the call's answers.
     fn tally_frames(&mut self, bytes: &[u8], answers: &[u8]) {
         for (body, answer) in service::bodies(bytes).zip(service::bodies(answers)) {
@@ -180,6 +183,7 @@ impl Lists {
                 [1, 4, ..] => self.reported.count(reported_outcome(&answer[2..])),
                 _ => {}
             }
+            self.sheets.count(body);
             if answer[1] == 0 {
                 self.nans.count(body);
             }
@@ -212,8 +216,8 @@ impl Lists {
             &self.ended,
         ];
         let reached = tallies.map(Tally::print);
-        let enough = self.nans.print(floor);
-        self.mismatches.print() && !reached.contains(&false) && enough
+        let enough = [self.nans.print(floor), self.sheets.print(floor)];
+        self.mismatches.print() && !reached.contains(&false) && enough == [true; 2]
     }
 }
 
@@ -282,7 +286,16 @@ fn codes(answers: &[u8]) -> Vec<u8> {
     service::bodies(answers).map(|body| body[1]).collect()
 }
 
-fn weigher(state: State, call: &Call) -> Reply {
+/// The operations of the book: those of the reference, where the Rust source was there.
+pub fn operations() -> &'static Operations {
+    if rust::INSTANCES.is_empty() {
+        &WITHOUT_SOURCE
+    } else {
+        &service::REFERENCE
+    }
+}
+
+pub fn weigher(state: State, call: &Call) -> Reply {
     let mut buffer = call.buffer.clone();
     let (state, used, len, number) = match call.kind {
         Kind::Take => {
@@ -324,7 +337,7 @@ fn numbers(reply: &Reply) -> [(&'static str, u64); 9] {
 }
 
 /// A line for each field that differs.
-fn differences(got: &Reply, want: &Reply) -> Vec<String> {
+pub fn differences(got: &Reply, want: &Reply) -> Vec<String> {
     let bytes = [
         (
             "state's body",
@@ -349,7 +362,7 @@ fn differences(got: &Reply, want: &Reply) -> Vec<String> {
     lines
 }
 
-fn shown(state: &State, call: &Call) -> String {
+pub fn shown(state: &State, call: &Call) -> String {
     let name = match call.kind {
         Kind::Take => "take",
         Kind::Close => "close",

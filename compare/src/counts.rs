@@ -1,4 +1,4 @@
-//! The counts of request A.6, written from that request alone: the true ones, which do not stop, and how they are shown.
+//! The counts of request A.6, written from that request and A.8 alone: the true ones, which do not stop, and how they are shown.
 
 use ffi::Counts;
 
@@ -26,7 +26,7 @@ impl TrueCounts {
     pub fn count(&mut self, number: u8) {
         match number {
             0 => self.accepted += 1,
-            1..=5 | 11 => self.refused += 1,
+            1..=5 | 11 | 14 | 15 => self.refused += 1,
             _ => unreachable!("no frame is refused by {number}"),
         }
     }

@@ -1,5 +1,5 @@
 //! The weigher's operations and program beside the machine's, the Rust exp2m1, MPFR and a service written from document 01 and requests
-//! A.3 and A.6 alone, its score with a lent list beside plain loops, and its reader of constants beside C's: test vectors and streams,
+//! A.3, A.6 and A.8 alone, its score with a lent list beside plain loops, and its reader of constants beside C's: test vectors and streams,
 //! comparisons and timings (see README.md).
 
 mod bench;
@@ -12,6 +12,7 @@ mod counts;
 mod directions;
 mod entries;
 mod frames;
+mod lines;
 mod listed;
 mod lists;
 mod machine;
@@ -30,6 +31,8 @@ mod screen;
 mod screenings;
 mod serve;
 mod service;
+mod sheet;
+mod sheets;
 mod source;
 mod states;
 mod steps;

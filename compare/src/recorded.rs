@@ -18,14 +18,15 @@ pub fn write_short_stream() -> io::Result<()> {
     io::stdout().write_all(&stream)
 }
 
-/// The frames at all bounds, the longest one, random ones, those with NaNs, reports and an unfinished one. Up to the reports the stream can
-/// be repeated, and its answers with it: none of them tells how many there were before.
+/// The frames at all bounds, the longest one, random ones, those with NaNs, sheets, reports and an unfinished one. Up to the reports the stream
+/// can be repeated, and its answers with it: none of them tells how many there were before.
 pub fn write_stream() -> io::Result<()> {
     let mut random = Random::new(7);
     let mut stream = frames::at_bounds(&mut random);
     stream.extend(frames::at_long_bounds(&mut random));
     stream.extend((0..FRAMES).flat_map(|_| frames::any_but_report(&mut random)));
     stream.extend(frames::of_nans(&mut random));
+    stream.extend(frames::of_sheets(&mut random));
     stream.extend(frames::reports(&mut random));
     stream.extend(frames::unfinished(&mut random));
     io::stdout().write_all(&stream)

@@ -1,12 +1,12 @@
-//! The framed service, written from document 01 and requests A.3 and A.6 alone, over the machine's fma and the Rust exp2m1, or others in
-//! their place.
+//! The framed service, written from document 01 and requests A.3, A.6 and A.8 alone, over the machine's fma and the Rust exp2m1, or others
+//! in their place.
 
 use std::iter;
 
 use ffi::{Counts, Direction};
 
 use crate::counts::TrueCounts;
-use crate::{machine, rust};
+use crate::{machine, rust, sheet};
 
 /// The longest body that is answered.
 pub const LONGEST_BODY: usize = 514;
@@ -117,6 +117,10 @@ fn results(body: &[u8], operations: &Operations, counts: &TrueCounts) -> Result<
             })
         }
         4 => report(payload, counts),
+        5 => {
+            let values = sheet::values(payload, operations.fused)?;
+            Ok(values.into_iter().map(operations.score).collect())
+        }
         _ => Err(4),
     }
 }

@@ -62,6 +62,7 @@ pub fn compare(thousands: u64) -> bool {
 fn run(feeding: &Feeding, streams: u64, random: &mut Random) -> io::Result<bool> {
     let name = feeding.name;
     let (mut different, mut miscounted, mut reports) = (0, 0, 0);
+    let mut sheets = [0; 3];
     for number in 0..streams {
         let stream = stream(random);
         let got = answers(&stream, feeding, random)?;
@@ -69,6 +70,7 @@ fn run(feeding: &Feeding, streams: u64, random: &mut Random) -> io::Result<bool>
             println!("{name}: stream {number} is answered differently");
             different += 1;
         }
+        count_sheets(&stream, &got, &mut sheets);
         match count_reports(&stream, &got) {
             Some(count) => reports += count,
             None => {
@@ -80,7 +82,21 @@ fn run(feeding: &Feeding, streams: u64, random: &mut Random) -> io::Result<bool>
     let frames = streams * FRAMES;
     println!("{name}: {frames} frames, {different} streams of {streams} differ");
     println!("{name}: {reports} reports, {miscounted} streams of {streams} have a wrong one");
+    let [answered, by_14, by_15] = sheets;
+    println!("{name}: {answered} sheets answered, {by_14} refused by 14, {by_15} by 15");
     Ok(different == 0 && miscounted == 0)
+}
+
+/// Counts the sheets of a stream that are answered, and those that 14 and 15 refuse.
+fn count_sheets(stream: &[u8], answers: &[u8], counts: &mut [u64; 3]) {
+    for (body, answer) in service::bodies(stream).zip(service::bodies(answers)) {
+        match (body, answer) {
+            ([1, 5, ..], [_, 0, ..]) => counts[0] += 1,
+            (_, [_, 14]) => counts[1] += 1,
+            (_, [_, 15]) => counts[2] += 1,
+            _ => {}
+        }
+    }
 }
 
 /// How many reports a stream has, where the numbers of each are the counts over the answers before it, by their codes alone.
@@ -100,7 +116,7 @@ fn count_reports(stream: &[u8], answers: &[u8]) -> Option<u64> {
         }
         match code {
             0 => accepted += 1,
-            1..=5 | 11 => refused += 1,
+            1..=5 | 11 | 14 | 15 => refused += 1,
             _ => return None,
         }
     }

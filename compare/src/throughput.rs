@@ -8,7 +8,8 @@ use std::process::{Child, Command, Stdio};
 use std::time::{Duration, Instant};
 use std::{env, iter, thread};
 
-use crate::frames::of_floats;
+use crate::frames::{of_floats, of_sheet};
+use crate::lines::household;
 use crate::random::Random;
 use crate::rust;
 use crate::streams::PROGRAM;
@@ -33,7 +34,7 @@ struct Kind {
     next: fn(&mut Random) -> Vec<u8>,
 }
 
-const KINDS: [Kind; 9] = [
+const KINDS: [Kind; 10] = [
     Kind {
         name: "scores, 64 to a frame",
         next: |random| scores(random, 64, any_weight),
@@ -53,6 +54,10 @@ const KINDS: [Kind; 9] = [
     Kind {
         name: "fused up, 21 to a frame",
         next: |random| triples(random, &[1, 3, 2]),
+    },
+    Kind {
+        name: "sheets of 56 lines",
+        next: |random| of_sheet(household(random).as_flattened()),
     },
     Kind {
         name: "random bytes",

@@ -111,6 +111,28 @@ static void whole_piece(void)
     show_answer("weigher_hand_on", handed.used, handed.len, handed.refusal, answers);
 }
 
+static void show_sheet(const char *name, const uint8_t *sheet, size_t len)
+{
+    uint8_t answer[WEIGHER_ANSWER_ROOM];
+    weigher_taken taken = weigher_take(weigher_fresh(), sheet, len, answer, sizeof answer);
+    show_answer(name, taken.used, taken.len, taken.refusal, answer);
+}
+
+/* Sheets of two members, with the weights 2 and 1, and a third line, which is to be the sum of both. */
+static void households(void)
+{
+    uint8_t sheet[] = {0x00, 0x1d, 0x01, 0x05,                                /* L = 29, version 1, kind 5 */
+                       0x00, 0x40, 0x00, 0x00, 0x00, 0x00, 0x00, 0x00, 0x00,  /* line 0: the weight 2 */
+                       0x00, 0x3f, 0xf0, 0x00, 0x00, 0x00, 0x00, 0x00, 0x00,  /* line 1: the weight 1 */
+                       0x01, 0x00, 0x01, 0x00, 0x00, 0x00, 0x00, 0x00, 0x00}; /* line 2: line 0 plus line 1 */
+    uint8_t *line = sheet + 4 + 2 * 9;
+    show_sheet("weigher_take of a household", sheet, sizeof sheet);
+    line[2] = 2; /* not a line before it */
+    show_sheet("weigher_take of a line that names itself", sheet, sizeof sheet);
+    line[0] = 2;
+    show_sheet("weigher_take of a line of neither form", sheet, sizeof sheet);
+}
+
 static void refused_calls(void)
 {
     uint8_t answer[WEIGHER_ANSWER_ROOM];
@@ -168,6 +190,7 @@ int main(void)
     lists();
     frame_by_frame();
     whole_piece();
+    households();
     refused_calls();
     payloads();
     constants();

@@ -1,6 +1,7 @@
 /* The calls that take bytes across the C interface: the layout of their structs, every byte of a state passed and returned, refused calls,
  * buffers that end where memory does, and NULL for what is empty; the texts of constants; the directions of sums, in calls and in frames;
- * the counts of frames and reports of them; lists of exceptions; and NaN operands. Says which check failed, and then ends with status 1. */
+ * the counts of frames and reports of them; lists of exceptions; NaN operands; and household sheets. Says which check failed, and then
+ * ends with status 1. */
 #define _DEFAULT_SOURCE
 #include <stddef.h>
 #include <stdint.h>
@@ -583,12 +584,18 @@ static void check_step(const struct step *step)
 {
     static const uint8_t no_body[] = {0x00, 0x00}, by_1[] = {0x00, 0x02, 0x01, 0x01};
     static const uint8_t with_payload[] = {0x00, 0x03, 0x01, 0x04, 0x00}, by_5[] = {0x00, 0x02, 0x01, 0x05};
+    static const uint8_t bad_line[] = {0x00, 0x0b, 0x01, 0x05, 2, 0, 0, 0, 0, 0, 0, 0, 0}, by_14[] = {0x00, 0x02, 0x01, 0x0e};
+    static const uint8_t own_line[] = {0x00, 0x0b, 0x01, 0x05, 1, 0, 0, 0, 0, 0, 0, 0, 0}, by_15[] = {0x00, 0x02, 0x01, 0x0f};
+    static const uint8_t sheet[] = {0x00, 0x0b, 0x01, 0x05, 0, 0xc0, 0x4b, 0, 0, 0, 0, 0, 0}; /* the weight of the frame */
     uint8_t numbers[REPORT_ANSWER];
     append_counts(numbers, step->before);
     check_counted(step, frame, sizeof frame, scores, sizeof scores);
     check_counted(step, report, sizeof report, numbers, sizeof numbers);
     check_counted(step, no_body, sizeof no_body, by_1, sizeof by_1);
     check_counted(step, with_payload, sizeof with_payload, by_5, sizeof by_5);
+    check_counted(step, bad_line, sizeof bad_line, by_14, sizeof by_14);
+    check_counted(step, own_line, sizeof own_line, by_15, sizeof by_15);
+    check_counted(step, sheet, sizeof sheet, scores, sizeof scores);
     for (size_t cut = 0; cut < sizeof frame; cut++)
         check_counts_kept(step, cut);
 }
@@ -641,9 +648,13 @@ static void check_reports_handed_on(void)
         0x00, 0x02, 0x01, 0xff,       /* 4 */
         0x00, 0x03, 0x01, 0x03, 0x04, /* 11 */
         0x00, 0x03, 0x01, 0x04, 0x00, /* 5 */
+        0x00, 0x0b, 0x01, 0x05, 0x02, /* 14 */
+        0x00, 0x00, 0x00, 0x00, 0x00, 0x00, 0x00, 0x00,
+        0x00, 0x0b, 0x01, 0x05, 0x01, /* 15 */
+        0x00, 0x00, 0x00, 0x00, 0x00, 0x00, 0x00, 0x00,
         0x02, 0x03,                   /* 2, with 515 bytes of 0 */
     };
-    static const uint8_t refusals[] = {0, 2, 1, 1, 0, 2, 1, 3, 0, 2, 1, 4, 0, 2, 1, 11, 0, 2, 1, 5, 0, 2, 1, 2};
+    static const uint8_t refusals[] = {0, 2, 1, 1, 0, 2, 1, 3, 0, 2, 1, 4, 0, 2, 1, 11, 0, 2, 1, 5, 0, 2, 1, 14, 0, 2, 1, 15, 0, 2, 1, 2};
     uint8_t piece[sizeof report + sizeof frame + sizeof refused + 515 + 2 * sizeof report + 1] = {0};
     uint8_t want[3 * REPORT_ANSWER + sizeof scores + sizeof refusals], buffer[7 * sizeof piece + 2 * WEIGHER_ANSWER_ROOM];
     uint8_t *end = append(piece, report, sizeof report);
@@ -654,13 +665,13 @@ static void check_reports_handed_on(void)
     end = append_counts(want, after(0, 0).counts);
     end = append(end, scores, sizeof scores);
     end = append(end, refusals, sizeof refusals);
-    end = append_counts(end, after(2, 6).counts);
-    append_counts(end, after(3, 6).counts);
+    end = append_counts(end, after(2, 8).counts);
+    append_counts(end, after(3, 8).counts);
     weigher_handed_on handed = weigher_hand_on(weigher_fresh(), piece, sizeof piece, buffer, sizeof buffer);
     CHECK(handed.used == sizeof piece && handed.len == sizeof want && handed.refusal == 0);
-    CHECK(memcmp(buffer, want, sizeof want) == 0 && same(handed.state, with_counts(state_of(1), after(4, 6).counts)));
+    CHECK(memcmp(buffer, want, sizeof want) == 0 && same(handed.state, with_counts(state_of(1), after(4, 8).counts)));
     weigher_closed closed = weigher_close(handed.state, buffer, sizeof buffer);
-    CHECK(closed.refusal == WEIGHER_UNFINISHED && same(closed.state, after(4, 6)));
+    CHECK(closed.refusal == WEIGHER_UNFINISHED && same(closed.state, after(4, 8)));
 }
 
 /* The room that weigher.h names is enough for the longest answers: that to a frame whose last byte alone is in the piece, and reports. */
@@ -1080,6 +1091,563 @@ static void check_nans(void)
     check_invalid_sums();
 }
 
+/* The lines of a household sheet, a frame of kind 5, and how many a body has room for. */
+enum { LINE = 9, MOST_LINES = 56, ROOM_FOR_SHEETS = 4 + (MOST_LINES + 1) * LINE };
+
+/* The length, the version and the kind before a payload of so many bytes. Returns the bytes of the whole frame. */
+static size_t put_head(uint8_t *bytes, uint8_t kind, size_t payload)
+{
+    const size_t body = 2 + payload;
+    bytes[0] = (uint8_t)(body >> 8);
+    bytes[1] = (uint8_t)body;
+    bytes[2] = 1;
+    bytes[3] = kind;
+    return 2 + body;
+}
+
+static uint8_t *line_at(uint8_t *sheet, size_t number)
+{
+    return sheet + 4 + LINE * number;
+}
+
+/* A line of the first form. */
+static void put_member(uint8_t *sheet, size_t number, uint64_t weight)
+{
+    uint8_t *line = line_at(sheet, number);
+    line[0] = 0;
+    put(line + 1, weight);
+}
+
+/* A line of the second form. */
+static void put_named(uint8_t *sheet, size_t number, size_t first, size_t second)
+{
+    uint8_t *line = line_at(sheet, number);
+    memset(line, 0, LINE);
+    line[0] = 1;
+    line[1] = (uint8_t)first;
+    line[2] = (uint8_t)second;
+}
+
+static void put_members(uint8_t *sheet, size_t lines)
+{
+    for (size_t i = 0; i < lines; i++)
+        put_member(sheet, i, one);
+}
+
+/* take and hand_on of a whole frame, which ends where memory does. Behind the answer the buffer keeps its content. */
+static void check_whole(const uint8_t *bytes, size_t n, const uint8_t *want, size_t want_len)
+{
+    static uint8_t *pieces, *buffer;
+    const size_t room = WEIGHER_ANSWER_ROOM;
+    if (buffer == NULL) {
+        pieces = before_end(ROOM_FOR_SHEETS);
+        buffer = before_end(room);
+    }
+    uint8_t *piece = pieces + ROOM_FOR_SHEETS - n;
+    memcpy(piece, bytes, n);
+    const weigher_state behind = want[3] == 0 ? after(1, 0) : after(0, 1);
+    memset(buffer, 0xee, room);
+    weigher_taken taken = weigher_take(weigher_fresh(), piece, n, buffer, room);
+    CHECK(taken.used == n && taken.len == want_len && taken.refusal == want[3] && same(taken.state, behind));
+    CHECK(memcmp(buffer, want, want_len) == 0 && untouched(buffer + want_len, room - want_len));
+    memset(buffer, 0xee, room);
+    weigher_handed_on handed = weigher_hand_on(weigher_fresh(), piece, n, buffer, room);
+    CHECK(handed.used == n && handed.len == want_len && handed.refusal == 0 && same(handed.state, behind));
+    CHECK(memcmp(buffer, want, want_len) == 0 && untouched(buffer + want_len, room - want_len));
+    CHECK(memcmp(piece, bytes, n) == 0);
+}
+
+/* The frame, cut at each place, closed there and, from the same state, taken to its end; and handed on byte by byte. */
+static void check_in_parts(const uint8_t *bytes, size_t n, const uint8_t *want, size_t want_len)
+{
+    uint8_t buffer[WEIGHER_ANSWER_ROOM];
+    const size_t room = sizeof buffer;
+    const weigher_state behind = want[3] == 0 ? after(1, 0) : after(0, 1);
+    weigher_state state = weigher_fresh();
+    for (size_t cut = 1; cut <= n; cut++) {
+        memset(buffer, 0xee, room);
+        weigher_handed_on handed = weigher_hand_on(state, bytes + cut - 1, 1, buffer, room);
+        state = handed.state;
+        CHECK(handed.used == 1 && handed.refusal == 0 && handed.len == (cut < n ? 0 : want_len));
+        CHECK(memcmp(buffer, want, handed.len) == 0 && untouched(buffer + handed.len, room - handed.len));
+        if (cut == n)
+            break;
+        CHECK(same(weigher_take(weigher_fresh(), bytes, cut, buffer, room).state, state) && untouched(buffer, room));
+        CHECK(state.frame.count == cut && memcmp(state.frame.body, bytes + 2, cut < 2 ? 0 : cut - 2) == 0);
+        weigher_closed closed = weigher_close(state, buffer, room);
+        CHECK(closed.refusal == WEIGHER_UNFINISHED && closed.len == 4 && same(closed.state, weigher_fresh()));
+        CHECK(memcmp(buffer, unfinished, 4) == 0 && untouched(buffer + 4, room - 4));
+        weigher_taken taken = weigher_take(state, bytes + cut, n - cut, buffer, room);
+        CHECK(taken.used == n - cut && taken.len == want_len && taken.refusal == want[3] && same(taken.state, behind));
+        CHECK(memcmp(buffer, want, want_len) == 0);
+    }
+    CHECK(same(state, behind));
+}
+
+/* The household of four of docs/PROTOCOL.md. */
+static void check_household(void)
+{
+    static const uint8_t sheet[] = {
+        0x00, 0x26, 0x01, 0x05,                               /* L = 38 */
+        0x00, 0x40, 0x08, 0x00, 0x00, 0x00, 0x00, 0x00, 0x00, /* line 0: 3 */
+        0x00, 0xbf, 0xf0, 0x00, 0x00, 0x00, 0x00, 0x00, 0x00, /* line 1: -1 */
+        0x01, 0x00, 0x01, 0x00, 0x00, 0x00, 0x00, 0x00, 0x00, /* line 2: line 0 plus line 1, 2 */
+        0x01, 0x02, 0x00, 0x00, 0x00, 0x00, 0x00, 0x00, 0x00, /* line 3: line 2 plus line 0, 5 */
+    };
+    static const uint8_t want[] = {
+        0x00, 0x22, 0x01, 0x00,                         /* L = 34 */
+        0x40, 0x1c, 0x00, 0x00, 0x00, 0x00, 0x00, 0x00, /* 7 */
+        0xbf, 0xe0, 0x00, 0x00, 0x00, 0x00, 0x00, 0x00, /* -0.5 */
+        0x40, 0x08, 0x00, 0x00, 0x00, 0x00, 0x00, 0x00, /* 3 */
+        0x40, 0x3f, 0x00, 0x00, 0x00, 0x00, 0x00, 0x00, /* 31 */
+    };
+    check_whole(sheet, sizeof sheet, want, sizeof want);
+    check_in_parts(sheet, sizeof sheet, want, sizeof want);
+}
+
+/* A weight or, of the second form, two numbers; and the score. */
+struct line {
+    uint8_t form, first, second;
+    uint64_t weight, score;
+};
+
+#define MEMBER(weight, score) {0, 0, 0, weight, score}
+#define SUM(first, second, score) {1, first, second, 0, score}
+
+static void check_lines(const struct line *lines, size_t n)
+{
+    uint8_t sheet[ROOM_FOR_SHEETS], want[WEIGHER_ANSWER_ROOM];
+    for (size_t i = 0; i < n; i++) {
+        if (lines[i].form == 0)
+            put_member(sheet, i, lines[i].weight);
+        else
+            put_named(sheet, i, lines[i].first, lines[i].second);
+        put(want + 4 + 8 * i, lines[i].score);
+    }
+    const size_t len = put_head(sheet, 5, LINE * n), want_len = put_head(want, 0, 8 * n);
+    check_whole(sheet, len, want, want_len);
+    check_in_parts(sheet, len, want, want_len);
+}
+
+static const uint64_t infinity = 0x7ff0000000000000, minus_one = 0xbff0000000000000, fifteen = 0x402e000000000000;
+
+/* The sums of the largest float and itself, of both signs, and what they give: infinities do not come back. */
+static void check_overflow(void)
+{
+    const struct line up[] = {
+        MEMBER(largest, infinity), SUM(0, 0, infinity),  MEMBER(largest | sign, minus_one), SUM(1, 2, infinity),
+        SUM(0, 2, 0),              SUM(2, 2, minus_one), SUM(1, 5, WEIGHER_NAN),            SUM(5, 1, WEIGHER_NAN),
+    };
+    const struct line down[] = {
+        MEMBER(largest | sign, minus_one), SUM(0, 0, minus_one), MEMBER(largest, infinity), SUM(1, 2, minus_one),
+        SUM(2, 0, 0),                      SUM(2, 2, infinity),  SUM(1, 5, WEIGHER_NAN),    SUM(5, 1, WEIGHER_NAN),
+    };
+    check_lines(up, sizeof up / sizeof up[0]);
+    check_lines(down, sizeof down / sizeof down[0]);
+}
+
+/* Each sum is rounded before it is added to again, a tie to the even float: 2^53 + 1 is 2^53, and (2^53 + 2) + 1 is 2^53 + 4. */
+static void check_rounded_lines(void)
+{
+    const uint64_t large = 0x4340000000000000;
+    const struct line lines[] = {
+        MEMBER(large, infinity), MEMBER(one, one), MEMBER(large + 1, infinity), MEMBER(large | sign, minus_one),
+        SUM(0, 1, infinity),     SUM(4, 3, 0),     SUM(2, 1, infinity),         SUM(6, 3, fifteen),
+    };
+    check_lines(lines, sizeof lines / sizeof lines[0]);
+}
+
+/* +0 unless both are -0. */
+static void check_zero_lines(void)
+{
+    const struct line lines[] = {
+        MEMBER(one, one),
+        MEMBER(minus_one, 0xbfe0000000000000),
+        MEMBER(0, 0),
+        MEMBER(sign, sign),
+        SUM(0, 1, 0),
+        SUM(1, 0, 0),
+        SUM(2, 2, 0),
+        SUM(2, 3, 0),
+        SUM(3, 2, 0),
+        SUM(4, 3, 0),
+        SUM(3, 3, sign),
+        SUM(10, 3, sign),
+        SUM(3, 10, sign),
+        SUM(11, 4, 0),
+    };
+    check_lines(lines, sizeof lines / sizeof lines[0]);
+}
+
+/* Of two NaNs that of the line named first, with its top fraction bit set; and infinities of unlike signs. */
+static void check_nan_lines(void)
+{
+    const uint64_t ten = 0x7ff800000000000a, eleven = 0xfff800000000000b;
+    const struct line lines[] = {
+        MEMBER(0x7ff000000000000a, ten),
+        MEMBER(0xfff000000000000b, eleven),
+        MEMBER(infinity, infinity),
+        MEMBER(infinity | sign, minus_one),
+        SUM(0, 1, ten),
+        SUM(1, 0, eleven),
+        SUM(0, 0, ten),
+        SUM(2, 1, eleven),
+        SUM(1, 2, eleven),
+        SUM(2, 3, WEIGHER_NAN),
+        SUM(3, 2, WEIGHER_NAN),
+        SUM(9, 5, WEIGHER_NAN), /* the NaN of an operation goes on as any other */
+        SUM(5, 9, eleven),
+        SUM(3, 4, ten),
+        SUM(2, 2, infinity),
+        SUM(3, 3, minus_one),
+    };
+    check_lines(lines, sizeof lines / sizeof lines[0]);
+}
+
+/* The bytes behind a first byte of 0 are a weight, also those that are numbers or filler in the other form. */
+static void check_any_weights(void)
+{
+    const struct line lines[] = {
+        MEMBER(UINT64_MAX, UINT64_MAX),
+        MEMBER(0xfff0ff0102030405, 0xfff8ff0102030405),
+        MEMBER(0xc04b010203040506, minus_one),
+        MEMBER(0x4090010203040506, infinity),
+        MEMBER(0xff00000000000001, minus_one),
+        SUM(4, 3, minus_one),
+    };
+    check_lines(lines, sizeof lines / sizeof lines[0]);
+}
+
+static uint64_t pattern_at(const uint8_t *bytes)
+{
+    uint64_t pattern = 0;
+    for (size_t i = 0; i < 8; i++)
+        pattern = pattern << 8 | bytes[i];
+    return pattern;
+}
+
+/* The sum by C's own +; of NaNs the first, with its top fraction bit set. */
+static uint64_t sum_of(uint64_t first, uint64_t second)
+{
+    const uint64_t top = 0x0008000000000000;
+    double a, b;
+    memcpy(&a, &first, sizeof a);
+    memcpy(&b, &second, sizeof b);
+    const double sum = a + b;
+    return a != a ? first | top : b != b ? second | top : sum != sum ? WEIGHER_NAN : pattern_of(sum);
+}
+
+/* The answer to a sheet of good lines is that to a frame of kind 1 with the values of its lines. */
+static void check_values(uint8_t *sheet, size_t lines)
+{
+    uint64_t values[MOST_LINES] = {0};
+    uint8_t weights[4 + 8 * MOST_LINES], want[WEIGHER_ANSWER_ROOM];
+    for (size_t i = 0; i < lines; i++) {
+        const uint8_t *line = line_at(sheet, i);
+        values[i] = line[0] == 0 ? pattern_at(line + 1) : sum_of(values[line[1]], values[line[2]]);
+        put(weights + 4 + 8 * i, values[i]);
+    }
+    const size_t len = put_head(weights, 1, 8 * lines);
+    weigher_taken taken = weigher_take(weigher_fresh(), weights, len, want, sizeof want);
+    CHECK(taken.refusal == 0 && taken.len == len);
+    check_whole(sheet, put_head(sheet, 5, LINE * lines), want, len);
+}
+
+/* Each pair of values in both orders, each with itself, and sums of sums. */
+static void check_pairs(void)
+{
+    static const uint64_t values[] = {
+        0x0000000000000000, 0x0000000000000001, 0x000fffffffffffff, 0x0010000000000000, 0x3ca0000000000000, 0x3fd5555555555555,
+        0x3fefffffffffffff, 0x3ff0000000000000, 0x3ff0000000000001, 0x4008000000000000, 0x404a800000000000, 0x4090000000000000,
+        0x4340000000000000, 0x4340000000000001, 0x7c90000000000000, 0x7fefffffffffffff, 0x7ff0000000000000, 0x7ff0000000000005,
+        0x7ff8000000000006,
+    };
+    const size_t count = 2 * sizeof values / sizeof values[0];
+    for (size_t i = 0; i < count * count; i++) {
+        const size_t first = i / count, second = i % count;
+        uint8_t sheet[ROOM_FOR_SHEETS];
+        put_member(sheet, 0, values[first / 2] | (first % 2 == 0 ? 0 : sign));
+        put_member(sheet, 1, values[second / 2] | (second % 2 == 0 ? 0 : sign));
+        put_named(sheet, 2, 0, 1);
+        put_named(sheet, 3, 1, 0);
+        put_named(sheet, 4, 0, 0);
+        put_named(sheet, 5, 2, 3);
+        put_named(sheet, 6, 2, 1);
+        put_named(sheet, 7, 4, 2);
+        check_values(sheet, 8);
+    }
+}
+
+/* From one line on to 56: each is the line before it and the first, the line before it twice, or the two before it. */
+static void check_chains(void)
+{
+    static const uint64_t weights[] = {0x3ff0000000000000, 0xbfe8000000000000, 0x3fb999999999999a, 0x0000000000000001,
+                                       0x7f90000000000000, 0x7ff0000000000003};
+    uint8_t sheet[ROOM_FOR_SHEETS];
+    for (size_t i = 0; i < 3 * sizeof weights / sizeof weights[0]; i++) {
+        put_member(sheet, 0, weights[i / 3]);
+        check_values(sheet, 1);
+        for (size_t n = 1; n < MOST_LINES; n++) {
+            put_named(sheet, n, n - 1, i % 3 == 0 ? 0 : i % 3 == 1 ? n - 1 : n < 2 ? 0 : n - 2);
+            check_values(sheet, n + 1);
+        }
+    }
+}
+
+/* Line after line is one more: the values are 1 to 56, and the scores 2^x - 1. With a line more the body is too long. */
+static void check_chain_of_56(void)
+{
+    struct line lines[MOST_LINES];
+    for (size_t i = 0; i < MOST_LINES; i++) {
+        const struct line line = SUM((uint8_t)(i - 1), 0, pattern_of((double)((UINT64_C(1) << (i + 1)) - 1)));
+        lines[i] = line;
+    }
+    lines[0].form = 0;
+    lines[0].weight = one;
+    check_lines(lines, MOST_LINES);
+    uint8_t sheet[ROOM_FOR_SHEETS];
+    put_members(sheet, MOST_LINES + 1);
+    check_refused_frame(sheet, put_head(sheet, 5, LINE * (MOST_LINES + 1)), WEIGHER_LONG_BODY);
+}
+
+/* Every line before it may be named by a line, first and second. */
+static void check_names(void)
+{
+    uint8_t sheet[ROOM_FOR_SHEETS];
+    for (size_t i = 0; i < MOST_LINES; i++)
+        put_member(sheet, i, pattern_of((double)i - 20.5));
+    for (size_t n = 1; n < MOST_LINES; n++) {
+        for (size_t named = 0; named < n; named++) {
+            put_named(sheet, n, named, n / 2);
+            check_values(sheet, n + 1);
+            put_named(sheet, n, n / 2, named);
+            check_values(sheet, MOST_LINES);
+        }
+        put_member(sheet, n, pattern_of((double)n - 20.5));
+    }
+}
+
+/* Refused, with no score in the buffer. */
+static void check_bad_sheet(uint8_t *sheet, size_t lines, unsigned number)
+{
+    const uint8_t want[] = {0x00, 0x02, 0x01, (uint8_t)number};
+    check_whole(sheet, put_head(sheet, 5, LINE * lines), want, sizeof want);
+}
+
+/* A line at each place of a sheet that is good without it: every byte that begins no line. */
+static void check_bad_forms(size_t lines)
+{
+    uint8_t sheet[ROOM_FOR_SHEETS];
+    put_members(sheet, lines);
+    for (size_t place = 0; place < lines; place++) {
+        for (unsigned byte = 2; byte <= 255; byte++) {
+            line_at(sheet, place)[0] = (uint8_t)byte;
+            check_bad_sheet(sheet, lines, WEIGHER_BAD_LINE);
+        }
+        put_member(sheet, place, one);
+    }
+}
+
+/* Each of the six bytes behind the numbers, with each of its bits alone. */
+static void check_bad_fillers(size_t lines)
+{
+    uint8_t sheet[ROOM_FOR_SHEETS];
+    put_members(sheet, lines);
+    for (size_t place = 1; place < lines; place++) {
+        put_named(sheet, place, 0, place - 1);
+        check_values(sheet, lines);
+        for (size_t at = 3; at < LINE; at++) {
+            for (unsigned bit = 0; bit < 8; bit++) {
+                line_at(sheet, place)[at] = (uint8_t)(1u << bit);
+                check_bad_sheet(sheet, lines, WEIGHER_BAD_LINE);
+            }
+            line_at(sheet, place)[at] = 0;
+        }
+        put_member(sheet, place, one);
+    }
+}
+
+/* Its own number, greater ones that the sheet has, and those that it does not have, first, second and both. */
+static void check_later_lines(size_t lines)
+{
+    uint8_t sheet[ROOM_FOR_SHEETS];
+    put_members(sheet, lines);
+    for (size_t place = 0; place < lines; place++) {
+        for (size_t name = place; name <= 255; name++) {
+            put_named(sheet, place, name, 0);
+            check_bad_sheet(sheet, lines, WEIGHER_LATER_LINE);
+            put_named(sheet, place, 0, name);
+            check_bad_sheet(sheet, lines, WEIGHER_LATER_LINE);
+            put_named(sheet, place, name, name);
+            check_bad_sheet(sheet, lines, WEIGHER_LATER_LINE);
+        }
+        put_member(sheet, place, one);
+    }
+}
+
+/* 14 is tried before 15 on one line. */
+static void check_both_on_a_line(size_t lines)
+{
+    uint8_t sheet[ROOM_FOR_SHEETS];
+    put_members(sheet, lines);
+    for (size_t place = 0; place < lines; place++) {
+        put_named(sheet, place, place, 255);
+        check_bad_sheet(sheet, lines, WEIGHER_LATER_LINE);
+        for (size_t at = 3; at < LINE; at++) {
+            line_at(sheet, place)[at] = 1;
+            check_bad_sheet(sheet, lines, WEIGHER_BAD_LINE);
+            line_at(sheet, place)[at] = 0;
+        }
+        line_at(sheet, place)[0] = 2;
+        check_bad_sheet(sheet, lines, WEIGHER_BAD_LINE);
+        put_member(sheet, place, one);
+    }
+}
+
+/* The first of two bad lines decides. */
+static void check_two_bad_lines(size_t lines)
+{
+    static const uint8_t bad[][LINE] = {{2, 0, 0, 0, 0, 0, 0, 0, 0}, {1, 0, 0, 0, 0, 0, 0, 0, 1}, {1, 0, 200, 0, 0, 0, 0, 0, 0}};
+    static const unsigned numbers[] = {WEIGHER_BAD_LINE, WEIGHER_BAD_LINE, WEIGHER_LATER_LINE};
+    uint8_t sheet[ROOM_FOR_SHEETS];
+    put_members(sheet, lines);
+    for (size_t first = 0; first < lines; first++)
+        for (size_t second = first + 1; second < lines; second++) {
+            for (size_t i = 0; i < 9; i++) {
+                memcpy(line_at(sheet, first), bad[i / 3], LINE);
+                memcpy(line_at(sheet, second), bad[i % 3], LINE);
+                check_bad_sheet(sheet, lines, numbers[i / 3]);
+            }
+            put_member(sheet, first, one);
+            put_member(sheet, second, one);
+        }
+}
+
+/* Bad sheets cut at each place. A close there is 8. */
+static void check_bad_sheets_in_parts(void)
+{
+    static const uint8_t by_14[] = {0x00, 0x02, 0x01, 0x0e}, by_15[] = {0x00, 0x02, 0x01, 0x0f};
+    uint8_t sheet[ROOM_FOR_SHEETS];
+    put_members(sheet, 3);
+    const size_t len = put_head(sheet, 5, LINE * 3);
+    line_at(sheet, 1)[0] = 0xff;
+    check_in_parts(sheet, len, by_14, sizeof by_14);
+    put_named(sheet, 1, 0, 2);
+    check_in_parts(sheet, len, by_15, sizeof by_15);
+}
+
+/* Payloads of each length, of good lines, of lines that 14 refuses and of those that 15 refuses: 5 comes first, and 2 before it. */
+static void check_sheet_lengths(void)
+{
+    static const unsigned numbers[] = {0, WEIGHER_BAD_LINE, WEIGHER_BAD_LINE, WEIGHER_LATER_LINE};
+    static const uint8_t fill[] = {0, 2, 0xff};
+    uint8_t sheet[ROOM_FOR_SHEETS], scores_of_0[WEIGHER_ANSWER_ROOM] = {0};
+    for (size_t i = 0; i < 4; i++)
+        for (size_t payload = 0; payload <= LINE * (MOST_LINES + 1); payload++) {
+            for (size_t n = 0; n <= MOST_LINES; n++) {
+                if (i < 3)
+                    memset(line_at(sheet, n), fill[i], LINE);
+                else
+                    put_named(sheet, n, 0, 0);
+            }
+            unsigned number = numbers[i];
+            if (payload == 0 || payload % LINE != 0)
+                number = WEIGHER_BAD_PAYLOAD;
+            if (2 + payload > WEIGHER_LONGEST_BODY)
+                number = WEIGHER_LONG_BODY;
+            const uint8_t refused[] = {0x00, 0x02, 0x01, (uint8_t)number};
+            const size_t len = put_head(sheet, 5, payload);
+            if (number == 0)
+                check_whole(sheet, len, scores_of_0, put_head(scores_of_0, 0, payload / LINE * 8));
+            else
+                check_whole(sheet, len, refused, sizeof refused);
+        }
+}
+
+/* 3 comes before 14 and 15, and other kinds have no lines. */
+static void check_around_sheets(void)
+{
+    uint8_t sheet[ROOM_FOR_SHEETS];
+    put_named(sheet, 0, 0, 0);
+    const size_t len = put_head(sheet, 5, LINE);
+    check_refused_frame(sheet, len, WEIGHER_LATER_LINE);
+    sheet[2] = 2;
+    check_refused_frame(sheet, len, WEIGHER_BAD_VERSION);
+    sheet[2] = 1;
+    for (size_t kind = 1; kind <= 4; kind++) {
+        sheet[3] = (uint8_t)kind;
+        check_refused_frame(sheet, len, WEIGHER_BAD_PAYLOAD);
+    }
+    sheet[3] = 0;
+    check_refused_frame(sheet, len, WEIGHER_BAD_KIND);
+    sheet[3] = 0xff;
+    check_refused_frame(sheet, len, WEIGHER_BAD_KIND);
+}
+
+/* Sheets and reports in one piece: what 14 and 15 refuse is counted. */
+static void check_sheets_handed_on(void)
+{
+    static const uint8_t piece[] = {
+        0x00, 0x14, 0x01, 0x05, 0, 0x3f, 0xf0, 0, 0, 0, 0, 0, 0, 1, 0, 0, 0, 0, 0, 0, 0, 0, /* 1, and twice as much */
+        0x00, 0x02, 0x01, 0x04,
+        0x00, 0x0b, 0x01, 0x05, 2, 0, 0, 0, 0, 0, 0, 0, 0, /* 14 */
+        0x00, 0x02, 0x01, 0x04,
+        0x00, 0x0b, 0x01, 0x05, 1, 0, 0, 0, 0, 0, 0, 0, 0, /* 15 */
+        0x00, 0x02, 0x01, 0x04,
+        0x00, 0x02, 0x01, 0x05, /* 5 */
+        0x00, 0x0b, 0x01, 0x05, 0, 0, 0, 0, 0, 0, 0, 0, 0, /* 0 */
+        0x00, 0x02, 0x01, 0x04,
+        0x00, 0x0b, 0x01, 0x05, 2, /* the stream ends inside a sheet */
+    };
+    static const uint8_t two_scores[] = {0x00, 0x12, 0x01, 0x00, 0x3f, 0xf0, 0, 0, 0, 0, 0, 0, 0x40, 0x08, 0, 0, 0, 0, 0, 0};
+    static const uint8_t by_14[] = {0, 2, 1, 14}, by_15[] = {0, 2, 1, 15}, by_5[] = {0, 2, 1, 5};
+    static const uint8_t zero[] = {0x00, 0x0a, 0x01, 0x00, 0, 0, 0, 0, 0, 0, 0, 0};
+    uint8_t buffer[7 * sizeof piece + 2 * WEIGHER_ANSWER_ROOM], want[sizeof buffer];
+    uint8_t *end = append(want, two_scores, sizeof two_scores);
+    end = append_counts(end, after(1, 0).counts);
+    end = append(end, by_14, sizeof by_14);
+    end = append_counts(end, after(2, 1).counts);
+    end = append(end, by_15, sizeof by_15);
+    end = append_counts(end, after(3, 2).counts);
+    end = append(end, by_5, sizeof by_5);
+    end = append(end, zero, sizeof zero);
+    end = append_counts(end, after(5, 3).counts);
+    const size_t want_len = (size_t)(end - want);
+    weigher_handed_on handed = weigher_hand_on(weigher_fresh(), piece, sizeof piece, buffer, sizeof buffer);
+    CHECK(handed.used == sizeof piece && handed.len == want_len && handed.refusal == 0 && memcmp(buffer, want, want_len) == 0);
+    CHECK(handed.state.frame.count == 5);
+    weigher_closed closed = weigher_close(handed.state, buffer, sizeof buffer);
+    CHECK(closed.refusal == WEIGHER_UNFINISHED && same(closed.state, after(6, 3)));
+}
+
+static void check_sheets(void)
+{
+    static const size_t lengths[] = {1, 2, 3, MOST_LINES};
+    CHECK(WEIGHER_BAD_LINE == 14 && WEIGHER_LATER_LINE == 15);
+    check_household();
+    check_overflow();
+    check_rounded_lines();
+    check_zero_lines();
+    check_nan_lines();
+    check_any_weights();
+    check_pairs();
+    check_chains();
+    check_chain_of_56();
+    check_names();
+    for (size_t i = 0; i < sizeof lengths / sizeof lengths[0]; i++) {
+        size_t lines = lengths[i];
+        check_bad_forms(lines);
+        check_bad_fillers(lines);
+        check_later_lines(lines);
+        check_both_on_a_line(lines);
+        check_two_bad_lines(lines);
+    }
+    check_bad_sheets_in_parts();
+    check_sheet_lengths();
+    check_around_sheets();
+    check_sheets_handed_on();
+}
+
 int main(void)
 {
     CHECK(same(weigher_fresh(), state_of(0)));
@@ -1095,5 +1663,6 @@ int main(void)
     check_reports();
     check_lists();
     check_nans();
+    check_sheets();
     return 0;
 }

@@ -36,11 +36,12 @@ fn send(name: &str, answer: Answer) {
     println!();
 }
 
-/// The weights -54 and 2, a frame each, and then a frame whose end does not come.
+/// The weights -54 and 2, a frame each, a household of 2, 1 and the sum of both, and then a frame whose end does not come.
 #[rustfmt::skip]
 const FIRST: &[u8] = &[
     0, 10, 1, 1, 0xc0, 0x4b, 0, 0, 0, 0, 0, 0,
     0, 10, 1, 1, 0x40, 0, 0, 0, 0, 0, 0, 0,
+    0, 29, 1, 5, 0, 0x40, 0, 0, 0, 0, 0, 0, 0, 0, 0x3f, 0xf0, 0, 0, 0, 0, 0, 0, 1, 0, 1, 0, 0, 0, 0, 0, 0,
     0, 10, 1, 1,
 ];
 
@@ -48,7 +49,7 @@ const FIRST: &[u8] = &[
 #[rustfmt::skip]
 const SECOND: &[u8] = &[
     0, 0,
-    0, 2, 1, 7,
+    0, 2, 1, 0xff,
     0, 26, 1, 2, 0x40, 0, 0, 0, 0, 0, 0, 0, 0x40, 8, 0, 0, 0, 0, 0, 0, 0x3f, 0xf0, 0, 0, 0, 0, 0, 0,
     0, 2, 1, 4,
 ];
@@ -60,7 +61,8 @@ fn main() {
     two.on_data(&SECOND[..9]);
     one.on_data(&FIRST[1..16]);
     two.on_data(&SECOND[9..]);
-    one.on_data(&FIRST[16..]);
+    one.on_data(&FIRST[16..30]);
     two.on_end();
+    one.on_data(&FIRST[30..]);
     one.on_end();
 }

@@ -35,8 +35,8 @@ impl<'a> Answer<'a> {
         Refusal::from_number(self.bytes[HEAD - 1])
     }
 
-    /// The results in the items' order: scores for kind 1, a × b + c for kinds 2 and 3. The numbers of a report are no floats:
-    /// [`Answer::report`] has them.
+    /// The results in the items' order: scores for kind 1, a × b + c for kinds 2 and 3, and for kind 5 the score of each line of the
+    /// household sheet. The numbers of a report are no floats: [`Answer::report`] has them.
     pub fn results(self) -> Result<impl ExactSizeIterator<Item = f64> + Clone, Refusal> {
         Ok(self.patterns()?.map(f64::from_bits))
     }
@@ -50,7 +50,7 @@ impl<'a> Answer<'a> {
     }
 
     /// The counts in the answer to a [`REPORT`](crate::REPORT). An answer does not say which kind its frame had: the answer to three
-    /// weights or three triples is read as counts too. None where it has not three results.
+    /// weights, three triples or three lines is read as counts too. None where it has not three results.
     pub fn report(self) -> Option<Counts> {
         let mut numbers = self.patterns().ok()?;
         if numbers.len() != 3 {

@@ -8,7 +8,7 @@ use std::fmt;
 /// assert_eq!(Refusal::BadKind.number(), 4);
 /// assert_eq!(Refusal::from_number(4), Some(Refusal::BadKind));
 /// assert_eq!(Refusal::from_number(0), None);
-/// assert_eq!(Refusal::BadKind.to_string(), "the kind is not one of 1 to 4");
+/// assert_eq!(Refusal::BadKind.to_string(), "the kind is not one of 1 to 5");
 /// ```
 #[derive(Clone, Copy, Debug, PartialEq, Eq, Hash)]
 #[repr(u8)]
@@ -19,7 +19,7 @@ pub enum Refusal {
     LongBody = 2,
     /// A frame's version is not 1.
     BadVersion = 3,
-    /// A frame's kind is not one of 1 to 4.
+    /// A frame's kind is not one of 1 to 5.
     BadKind = 4,
     /// A payload has no items, or a part of one, or is a report's and not empty.
     BadPayload = 5,
@@ -41,6 +41,12 @@ pub enum Refusal {
     ListTooLong = 12,
     /// An entry's x, hi or lo is not finite, or an x is zero or not above the x before it.
     BadEntry = 13,
+    /// The first byte of a household sheet's line is above 1, or one of the line's filler bytes is not 0. It is tried after
+    /// [`BadPayload`](Refusal::BadPayload); the first bad line decides.
+    BadLine = 14,
+    /// A line of a household sheet names its own number or a greater one, whether the sheet has that line or not. On one line it is tried
+    /// after [`BadLine`](Refusal::BadLine).
+    LaterLine = 15,
 }
 
 impl Refusal {
@@ -63,6 +69,8 @@ impl Refusal {
             11 => Refusal::BadDirection,
             12 => Refusal::ListTooLong,
             13 => Refusal::BadEntry,
+            14 => Refusal::BadLine,
+            15 => Refusal::LaterLine,
             _ => return None,
         })
     }
@@ -74,7 +82,7 @@ impl fmt::Display for Refusal {
             Refusal::ShortBody => "the body has under 2 bytes",
             Refusal::LongBody => "the body has over 514 bytes",
             Refusal::BadVersion => "the version is not 1",
-            Refusal::BadKind => "the kind is not one of 1 to 4",
+            Refusal::BadKind => "the kind is not one of 1 to 5",
             Refusal::BadPayload => {
                 "the payload has no items, or a part of one, or is a report's and not empty"
             }
@@ -86,6 +94,8 @@ impl fmt::Display for Refusal {
             Refusal::BadDirection => "the direction byte is above 3",
             Refusal::ListTooLong => "the list has over 256 entries",
             Refusal::BadEntry => "an entry is not finite, has an x of zero or is out of order",
+            Refusal::BadLine => "a line's first byte is above 1, or a filler byte is not 0",
+            Refusal::LaterLine => "a line names its own number or a greater one",
         })
     }
 }

@@ -48,7 +48,7 @@ pub struct PartialFrame {
 pub struct Counts {
     /// Frames that were answered and not refused.
     pub accepted: u64,
-    /// Frames that were refused by 1 to 5 or 11.
+    /// Frames that were refused by 1 to 5, 11, 14 or 15.
     pub refused: u64,
     /// Both.
     pub total: u64,

@@ -1,4 +1,5 @@
-//! The service, payload and screening: document 01's whole case, cut and recorded streams, the four kinds, the counts, and refused calls.
+//! The service, payload and screening: document 01's whole case, cut and recorded streams, kinds 1 to 4, the counts, and refused calls.
+//! sheets.rs has kind 5.
 
 use std::io::{self, Read, Write};
 use weigher::{
@@ -116,6 +117,8 @@ fn answers<'a>(pieces: impl IntoIterator<Item = &'a [u8]>) -> Vec<u8> {
 fn short_stream() -> Vec<u8> {
     let mut bytes = FRAMES[..14].to_vec();
     bytes.extend([0, 2, 2, 1, 0, 2, 1, 0xff, 0, 3, 1, 2, 0, 0, 3, 1, 3, 4]);
+    bytes.extend([0, 11, 1, 5, 2, 0, 0, 0, 0, 0, 0, 0, 0]);
+    bytes.extend([0, 11, 1, 5, 1, 0, 0, 0, 0, 0, 0, 0, 0]);
     bytes.extend([2, 3]);
     bytes.extend([0; LONGEST_BODY + 1]);
     bytes.extend(REPORT);
@@ -127,8 +130,8 @@ fn short_stream() -> Vec<u8> {
 fn every_cut() {
     let bytes = short_stream();
     let whole = answers([&bytes[..]]);
-    let refusals = [1, 3, 4, 5, 11, 2].map(|number| [0, 2, 1, number]);
-    let report = report_answer(counts(1, 6, 7));
+    let refusals = [1, 3, 4, 5, 11, 14, 15, 2].map(|number| [0, 2, 1, number]);
+    let report = report_answer(counts(1, 8, 9));
     assert_eq!(
         whole,
         [ANSWERS[0], refusals.as_flattened(), &report, ANSWERS[2]].concat()
@@ -326,7 +329,7 @@ fn every_refusal_of_a_frame_is_counted() {
     let mut stream = Stream::new();
     stream.feed(&short_stream());
     stream.close();
-    check_report(&mut stream, 2, 6);
+    check_report(&mut stream, 2, 8);
 }
 
 #[test]
@@ -425,6 +428,10 @@ fn counts_stop_at_their_end() -> Result<(), Refusal> {
         check_step(before, &REPORT, &report_answer(before), accepted)?;
         check_step(before, &FRAMES[12..14], ANSWERS[1], refused)?;
         check_step(before, &[0, 3, 1, 4, 0], &[0, 2, 1, 5], refused)?;
+        for (form, number) in [(2, 14), (1, 15)] {
+            let sheet = [0, 11, 1, 5, form, 0, 0, 0, 0, 0, 0, 0, 0];
+            check_step(before, &sheet, &[0, 2, 1, number], refused)?;
+        }
     }
     Ok(())
 }
@@ -524,7 +531,7 @@ fn wrong_frames_with_right_totals() {
 fn refusals_and_their_numbers() {
     for number in 0..=u8::MAX {
         let refusal = Refusal::from_number(number);
-        assert_eq!(refusal.is_some(), (1..=13).contains(&number), "{number}");
+        assert_eq!(refusal.is_some(), (1..=15).contains(&number), "{number}");
         assert!(refusal.is_none_or(|refusal| refusal.number() == number));
     }
 }
@@ -532,7 +539,7 @@ fn refusals_and_their_numbers() {
 #[test]
 fn results_of_a_refused_frame() {
     let mut stream = Stream::new();
-    let answer = stream.feed(&frame(7, &[])).next().unwrap();
+    let answer = stream.feed(&frame(0xff, &[])).next().unwrap();
     assert_eq!(answer.refusal(), Some(Refusal::BadKind));
     assert_eq!(answer.results().err(), Some(Refusal::BadKind));
     assert_eq!(answer.patterns().err(), Some(Refusal::BadKind));
