@@ -1,4 +1,4 @@
--- What the functions on lines ask of their callers, and say of numbers. Nothing here is part of what a sheet means. Definitions only.
+-- What the functions on lines ask of their callers, and what they say of the size of values. Nothing here is part of what a sheet means. Definitions only.
 use Prim.Native.Nat.{ℕ, _^_, _≤_, _<_}
 use mathlib.Core.Path.{_≡_}
 use mathlib.Core.List.{List}

@@ -1,6 +1,6 @@
 -- `answers::write_sheet` meets its contract: the values, scored as weights. Assumes nothing.
 use Prim.Native.Nat.{ℕ, _+_, _*_, _-_, _≤_}
-use mathlib.Core.Path.{_≡_, refl, sym, ap, subst, subst₂, _∙_}
+use mathlib.Core.Path.{_≡_, refl, sym, ap, subst₂, _∙_}
 use mathlib.Core.List.{List}
 use native.Mathlib.Omega.{arith}
 use lib.ListN.{length, getD, drop}
@@ -11,7 +11,7 @@ use Rattle.frames.specs.Frame.{itemsFrom, itemBytes, itemCount, refusalTo}
 use Rattle.frames.specs.Body.{Body}
 use Rattle.frames.proofs.Items.{items-first, item-one, item-line}
 use Rattle.frames.proofs.Contents.{payload-contents}
-use Rattle.frames.proofs.Refusals.{good-length, good-items}
+use Rattle.frames.proofs.Refusals.{good-length}
 use Rattle.answers.specs.Answers.{accepting, resultsOf, itemsIn}
 use Rattle.answers.proofs.Results.{lines-scored, lines-good, payload-items}
 use Rattle.answers.proofs.Answers.{written-as}
@@ -27,6 +27,10 @@ payload-lines n b p {k} l r e q c =
     let m = ap (λ (x : ℕ). k * x) (item-line e) in
     (subst₂ GoodLines (sym c′) (sym q) (lines-good n b l r e), omega (arith, w .0, m))
 
+-- the items of every kind but 3 come first
+at-front : (kind n : ℕ) → (kind ≡ 3 → ⊥) → itemsFrom kind ≤ n
+at-front kind n e = omega (arith, items-first kind e)
+
 -- so many weights are within a payload
 within : (n len : ℕ) → 8 * n ≤ len → itemsFrom 1 + n * itemBytes 1 ≤ len
 within n len h = omega (arith, items-first 1 (λ k. let z : ⊥ = omega arith in z), ap (λ (m : ℕ). n * m) (item-one {kind = 1} refl))
@@ -37,9 +41,7 @@ sub-item-count c =
     good-length (s .args .n) (s .args .body .now) (s .pre .1) .0
 
 item-count-requires : tie.Need-item-count-requires
-item-count-requires c κs =
-    let s = c .before .before in
-    subst (λ (k : ℕ). itemsFrom k ≤ s .args .n - 2) (s .pre .2) (good-items (s .args .n) (s .args .body .now) (s .pre .1))
+item-count-requires c κs = at-front _ _ (λ e. omega arith)
 
 payload-requires : tie.Need-payload-requires
 payload-requires c κs = search needs

@@ -29,7 +29,7 @@ mul-sum c = search needs
 element-copy-out-sum : tie.Need-element-copy-out-sum
 element-copy-out-sum c =
     let s = c .before .before .before in
-    named (s .args .i) _ _ (c .before .line2 .given .1) (s .pre .0) (s .pre .1) .0
+    omega (arith, named (s .args .i) _ _ (c .before .line2 .given .1) (s .pre .0) (s .pre .1))
 
 cast-sum-2 : tie.Need-cast-sum-2
 cast-sum-2 c = search needs
@@ -40,7 +40,7 @@ mul-sum-2 c = search needs
 element-copy-out-sum-2 : tie.Need-element-copy-out-sum-2
 element-copy-out-sum-2 c =
     let s = c .before .before .before .before in
-    named (s .args .i) _ _ (c .before .before .line2 .given .1) (s .pre .0) (s .pre .1) .1
+    omega (arith, named (s .args .i) _ _ (c .before .before .line2 .given .1) (s .pre .0) (s .pre .1))
 
 sum-requires : tie.Need-sum-requires
 sum-requires c κs = search needs
