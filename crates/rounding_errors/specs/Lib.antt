@@ -1,0 +1,2 @@
+-- Values of patterns, and how far they lie apart.
+pub mod Spacing

@@ -1,0 +1,2 @@
+-- How close a tiny score is.
+pub mod TinyScores
