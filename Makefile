@@ -55,14 +55,15 @@ archive:
 program:
 	rt check weigher constants
 
-# Edge cases and a million random ones of each operation, lists of calls, refused lists of entries, and texts of constants, where rustc and ar
-# are there; the score, its recorded vectors, random streams, good lists and the source's own texts where the Rust source is too.
+# Edge cases and a million random ones of each operation, lists of calls, refused lists of entries, tiny scores, and texts of constants, where
+# rustc and ar are there; the score, its recorded vectors, random streams, good lists, the entries of step 5 and the source's own texts where
+# the Rust source is too.
 compare: archive program
 	@if command -v rustc >/dev/null && command -v ar >/dev/null; then \
 	    rt staticlib fast_fused_c && compare/build.sh && target/compare/compare run 1 && \
 	    cat crates/exp2m1_vectors/stdin crates/phase_vectors/stdin | target/compare/compare check-score-vectors && \
 	    target/compare/compare streams 2 && target/compare/compare calls 10 && target/compare/compare lists 1 && \
-	    target/compare/compare constants 100; \
+	    target/compare/compare tiny 1 && target/compare/compare constants 100; \
 	else \
 	    echo "rustc or ar is not installed: nothing is compared"; \
 	fi

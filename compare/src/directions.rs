@@ -8,7 +8,7 @@ use crate::machine;
 use crate::random::Random;
 use crate::run::Compared;
 use crate::tally::print_count;
-use crate::values::{FRACTION, SIGN, SPECIALS, both_signs};
+use crate::values::{SIGN, SPECIALS, both_signs, parts};
 
 type Three = (u64, u64, u64);
 
@@ -167,18 +167,14 @@ fn is_tie(a: u64, b: u64, c: u64) -> bool {
 
 /// A finite float as an odd number and the exponent of a power of two; 0 for a zero.
 fn odd_times_power(x: u64) -> (i128, i32) {
-    let exponent = (size(x) >> 52) as i32;
-    let significand = match exponent {
-        0 => x & FRACTION,
-        _ => x & FRACTION | FRACTION + 1,
-    };
+    let (significand, exponent) = parts(x);
     if significand == 0 {
         return (0, 0);
     }
     let zeros = significand.trailing_zeros();
     let odd = i128::from(significand >> zeros);
     let signed = if x & SIGN == 0 { odd } else { -odd };
-    (signed, exponent.max(1) - 1075 + zeros as i32)
+    (signed, exponent + zeros as i32)
 }
 
 /// The sum of two such numbers, or none where their bits lie so far apart that it is no tie: it then has over 100 bits.

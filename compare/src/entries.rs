@@ -6,7 +6,7 @@ use ffi::Entry;
 
 use crate::random::Random;
 use crate::score::{self, STEP_4, STEP_5, is_of_step_5};
-use crate::values::{FRACTION, SIGN, assemble, beside, float, nan};
+use crate::values::{FRACTION, SIGN, assemble, beside, float, nan, of_sizes};
 
 /// A kind of x: its name, and how one is made, with the table of 56 at hand. There are over 300 of each, more than a list has.
 pub type Kind = (&'static str, fn(&mut Random, &[Entry]) -> u64);
@@ -34,8 +34,7 @@ fn any(random: &mut Random) -> u64 {
 }
 
 pub fn of_step_5(random: &mut Random) -> u64 {
-    let size = STEP_4 + 1 + random.below(STEP_5 - STEP_4);
-    size | random.word() & SIGN
+    of_sizes(random, STEP_4 + 1, STEP_5)
 }
 
 fn outside_of_step_5(random: &mut Random) -> u64 {

@@ -1,6 +1,6 @@
 //! The weigher's operations and program beside the machine's, the Rust exp2m1, MPFR and a service written from document 01 and requests
-//! A.3, A.6 and A.8 alone, its score with a lent list beside plain loops, and its reader of constants beside C's: test vectors and streams,
-//! comparisons and timings (see README.md).
+//! A.3, A.6 and A.8 alone, its score with a lent list beside plain loops, its tiny scores beside exact values, and its reader of constants
+//! beside C's: test vectors and streams, comparisons and timings (see README.md).
 
 mod bench;
 mod book;
@@ -40,15 +40,17 @@ mod streams;
 mod tally;
 mod texts;
 mod throughput;
+mod tiny;
 mod values;
 mod vectors;
+mod wide;
 
 use std::env;
 use std::io;
 use std::process::ExitCode;
 
 const USAGE: &str = "usage: compare run [MILLIONS] | compare mpfr [THOUSANDS] | compare streams [THOUSANDS] | compare calls [THOUSANDS]
-       compare lists [THOUSANDS]
+       compare lists [THOUSANDS] | compare tiny [MILLIONS]
        compare constants [THOUSANDS] | compare constant-lines | compare constant-replies
        compare bench | compare throughput [MEGABYTES] | compare serve [weigher] | compare vectors
        compare score-vectors | compare phase-vectors | compare check-score-vectors | compare screening-vectors
@@ -68,6 +70,8 @@ fn main() -> ExitCode {
         ["calls", thousands] => with_number(thousands, calls::compare),
         ["lists"] => succeeds(lists::compare(10)),
         ["lists", thousands] => with_number(thousands, lists::compare),
+        ["tiny"] => succeeds(tiny::compare(10)),
+        ["tiny", millions] => with_number(millions, tiny::compare),
         ["constants"] => succeeds(constants::compare(1000)),
         ["constants", thousands] => with_number(thousands, constants::compare),
         ["constant-lines"] => written(constants::write_lines()),

@@ -88,6 +88,14 @@ pub fn both_signs(patterns: &[u64]) -> Vec<u64> {
     patterns.iter().flat_map(|&x| [x, x | SIGN]).collect()
 }
 
+/// The significand of a finite float as a whole number, and the exponent of its last place.
+pub const fn parts(x: u64) -> (u64, i32) {
+    match (x & !SIGN) >> 52 {
+        0 => (x & FRACTION, -1074),
+        exponent => (x & FRACTION | FRACTION + 1, exponent as i32 - 1075),
+    }
+}
+
 /// The float of a random sign, an exponent from -1074 to 1023, taken to the nearer end outside it, and 52 bits of fraction.
 pub fn assemble(random: &mut Random, exponent: i64, fraction: u64) -> u64 {
     let sign = random.word() & SIGN;
@@ -117,6 +125,12 @@ pub fn float(random: &mut Random, exponent: i64) -> u64 {
         _ => word,
     };
     assemble(random, exponent, fraction)
+}
+
+/// A float of a random sign, whose size is from the least to the most.
+pub fn of_sizes(random: &mut Random, least: u64, most: u64) -> u64 {
+    let size = least + random.below(most - least + 1);
+    size | random.word() & SIGN
 }
 
 /// A float from lo to hi, evenly.
