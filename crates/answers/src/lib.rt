@@ -1,6 +1,8 @@
 // The answer to a frame that is not refused: the results of its items, or a report's numbers, written into a buffer.
 //
 // The contracts are equations with the documents' answers on lists of bytes, in specs/Answers.antt.
+#![tactic(auto)]
+
 ghost use Rattle.std.specs.Prelude.{◌≡◌, ◌++◌, ◌+◌, ◌*◌, ◌≤◌, length, get_or, drop};
 ghost use Rattle.frames.specs.Frame.{answer_room, items_from, item_bytes, refusal_to};
 ghost use Rattle.frames.specs.Body.{Body};

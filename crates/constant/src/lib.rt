@@ -2,6 +2,8 @@
 //
 // constant promises the reply that specs/Constant.antt defines, for every text; nothing is rounded. A text is read byte by byte, so that
 // one which comes in pieces is read by read_on and finish, in the same memory however long it is (specs/Machine.antt).
+#![tactic(auto)]
+
 ghost use Rattle.std.specs.Prelude.{◌≡◌, ℕ, ◌+◌, ◌-◌, ◌≤◌, ◌<◌, length};
 ghost use Rattle.constant.specs.Constant.{exactly, constant_of};
 ghost use Rattle.constant.specs.Machine.{with_digit, with_decimal, pushed, read_from, unread, Within, most_places, Holds, Finishes, whole_bits, RepliesBits, RepliesPlaced};
@@ -18,7 +20,7 @@ const INEXACT: u8 = 10;
 
 // A number's leading digits: it is value * 16^raised / 16^lowered, and a little more where a digit other than 0 is lost, which is then kept
 // in lost. Here and in a Power there are words alone: a smaller field would have padding behind it, and each byte of a text would copy it.
-#[derive(Drop)]
+#[derive(Clone, Copy)]
 pub struct Significand {
     pub value: u64,
     pub raised: u64,
@@ -27,13 +29,13 @@ pub struct Significand {
 }
 
 // An exponent, as 4 * quotient + remainder: four times a place of a long text would not fit a word. A quotient beyond MOST stays there.
-#[derive(Drop)]
+#[derive(Clone, Copy)]
 pub struct Power {
     pub quotient: u64,
     pub remainder: u64,
 }
 
-#[derive(Drop)]
+#[derive(Clone, Copy)]
 pub struct Reading {
     pub stage: Stage,
     pub negative: bool,

@@ -1,5 +1,7 @@
 // constant for C, declared in include/weigher.h. C has no enum with values: a reply is the number that is returned, 0 where the text is
 // read, and the float behind the pointer (specs/Told.antt of reply).
+#![tactic(auto)]
+
 ghost use Rattle.std.specs.Prelude.{◌≡◌};
 ghost use Rattle.constant.specs.Constant.{constant_of};
 ghost use Rattle.reply.specs.Told.{number, result};

@@ -3,6 +3,8 @@
 //
 // All that decides a reply is in the crate constant. A read that fails and an output that takes nothing more end the program with a line
 // on standard error.
+#![tactic(auto)]
+
 ghost use Rattle.std.specs.Prelude.{ℕ, ◌+◌, ◌-◌, ◌≤◌, length};
 ghost use Rattle.constant.specs.Machine.{Within, most_places};
 
@@ -54,7 +56,7 @@ fn write_reply(reply: Reply) -> bool {
 }
 
 // What has been read of the present line, whether that is any byte, and whether the output still takes bytes.
-#[derive(Drop)]
+#[derive(Clone, Copy)]
 struct Progress {
     reading: Reading,
     begun: bool,

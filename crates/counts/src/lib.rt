@@ -1,6 +1,8 @@
 // The counts of a report, as they are shown: each stops at 2^64 - 1.
 //
 // The contracts are equations with the definitions of specs/Counts.antt, for every value of Counts.
+#![tactic(auto)]
+
 ghost use Rattle.std.specs.Prelude.{◌≡◌, ◌++◌, ◌+◌, ◌≤◌, length, drop};
 ghost use Rattle.counts.specs.Counts.{is_refused, none_counted, stopped, shown, is_sum, report_of, added, shown_next};
 
@@ -9,7 +11,7 @@ pub const REPORT_BYTES: usize = 24;
 
 // Frames accepted, frames refused, and their total.
 #[repr(C)]
-#[derive(Drop)]
+#[derive(Clone, Copy)]
 pub struct Counts {
     pub accepted: u64,
     pub refused: u64,

@@ -1,5 +1,7 @@
 // The remainder of a product in f64 operations alone, where both factors are far from both ends of the exponents: each is split into two halves
 // (Veltkamp), and with products of halves every step is exact (Dekker).
+#![tactic(auto)]
+
 ghost use Rattle.std.specs.Prelude.{◌≡◌, not, T};
 ghost use Rattle.std.specs.Float.{binary64};
 ghost use Rattle.std.specs.Float.Ieee.{mul, neg, is_nan};

@@ -3,6 +3,8 @@
 // hand_on promises what Delivers of specs/Delivery.antt says: the bytes used, the answers, the state and the buffer are those of the
 // plain book, taken again and again while there is room for an answer. A nonempty piece that is not refused is used in part at least.
 // The crate streams states demand 3 for pieces that are handed on and for whole streams, and proves it.
+#![tactic(auto)]
+
 ghost use Rattle.std.specs.Prelude.{◌≡◌, false, length};
 ghost use Rattle.frames.specs.Frame.{whole};
 ghost use Rattle.service.specs.Book.{state_of};
@@ -18,7 +20,7 @@ const BAD_STATE: u8 = 7;
 
 // The state, the bytes of the piece that were used, the bytes of answers at the buffer's front, and refusal 6, 7 or 0.
 #[repr(C)]
-#[derive(Drop)]
+#[derive(Clone, Copy)]
 pub struct HandedOn {
     pub state: State,
     pub used: usize,

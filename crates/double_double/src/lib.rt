@@ -2,6 +2,7 @@
 //
 // Each function promises the pair that the definition of its name in specs/Pairs.antt gives for the same operands.
 // fast_two_sum and a_mul also promise where nothing is lost (specs/Exactness.antt). In a product lo stays a pattern until its last step.
+#![tactic(auto)]
 
 ghost use Rattle.std.specs.Prelude.{◌≡◌};
 ghost use Rattle.std.specs.Float.{binary64};

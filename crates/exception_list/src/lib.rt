@@ -3,6 +3,7 @@
 //
 // The definitions are those of specs/List.antt: what a list is refused by. What a whole check and a whole search come to is told in
 // specs/Steps.antt; proofs/ has the laws by which a walk goes on.
+#![tactic(auto)]
 
 ghost use Rattle.std.specs.Prelude.{◌≡◌, ◌<◌, true, false};
 ghost use Rattle.std.specs.Float.{inf};
@@ -35,7 +36,7 @@ fn minus_infinity() -> f64
 }
 
 // How far a check has come: the next entry, the x before it, and the refusal so far, or 0.
-#[derive(Drop)]
+#[derive(Clone, Copy)]
 pub struct Check {
     pub at: usize,
     pub last: f64,
@@ -112,7 +113,7 @@ pub fn check_next(c: Check, e: Entry) -> Check
 }
 
 // A search for x among the entries first to past - 1. `at` is the middle one; where there is none, or x is found, NOWHERE.
-#[derive(Drop)]
+#[derive(Clone, Copy)]
 pub struct Search {
     pub at: usize,
     pub first: usize,

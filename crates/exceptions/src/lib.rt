@@ -3,6 +3,7 @@
 // exception promises the reply of the entry of a stretch whose x equals the one asked for, or that there is no such entry
 // (specs/Lookup.antt). The entries are those of specs/Table.antt; each stretch of them ascends strictly by x (Ascending). The definitions
 // of a lookup, and the laws of a search by halves, are about any list of entries: exception_list uses them for a lent one.
+#![tactic(auto)]
 
 mod table;
 
@@ -14,7 +15,7 @@ use table::EXCEPTIONS;
 
 // An exceptional case x, and its reply hi + lo.
 #[repr(C)]
-#[derive(Drop)]
+#[derive(Clone, Copy)]
 pub struct Entry {
     pub x: f64,
     pub hi: f64,
@@ -22,14 +23,14 @@ pub struct Entry {
 }
 
 // The stretches of the table: of step 5, and of step 8 with |x| <= 1/8 and with |x| > 1/8.
-#[derive(Drop)]
+#[derive(Clone, Copy)]
 pub enum Stretch {
     First,
     Tiny,
     Wide,
 }
 
-#[derive(Drop)]
+#[derive(Clone, Copy)]
 pub enum Found {
     Reply(f64),
     Nothing,

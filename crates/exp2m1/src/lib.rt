@@ -4,6 +4,7 @@
 // score promises, for every 64-bit pattern, the pattern that scoreBits of specs/Score.antt gives: document 01's steps 1 to 8 over IEEE
 // operations. score_found promises the same steps with a list of entries in step 5 that the caller has looked through (scoreWith). The
 // phases promise the definitions of their names in specs/Phases.antt.
+#![tactic(auto)]
 
 ghost use Rattle.std.specs.Prelude.{◌≡◌, ◌%◌, ◌^◌, ◌<◌, leb, List};
 ghost use Rattle.std.specs.Float.{binary64};

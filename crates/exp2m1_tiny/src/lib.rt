@@ -1,6 +1,7 @@
 // exp2m1 for |x| <= 0.125: the polynomials P of the fast phase and Q of the accurate phase.
 //
 // Each function promises the definition of its name in specs/Tiny.antt, over the coefficients of specs/Coefficients.antt.
+#![tactic(auto)]
 
 ghost use Rattle.std.specs.Prelude.{◌≡◌};
 ghost use Rattle.pair.specs.Pair.{bits};
@@ -13,7 +14,7 @@ use math::{fma_bits, from_bits, pattern};
 use pair::Pair;
 
 // A double-double approximation and the maximal corresponding absolute error.
-#[derive(Drop)]
+#[derive(Clone, Copy)]
 pub struct Estimate {
     pub pair: Pair,
     pub err: f64,

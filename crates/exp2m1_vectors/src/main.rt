@@ -1,6 +1,8 @@
 // Runs the vectors of standard input through the score: a line for each failure, and then the count.
 //
 // A vector is `score X WANT`, both bit patterns of floats.
+#![tactic(auto)]
+
 use vectors::Answer;
 
 // The score of a line's first number, of which the second is wanted.

@@ -2,6 +2,7 @@
 //
 // exp2m1_whole promises the definition of its name in specs/Whole.antt, which is exactly 2^x - 1, and what the operations of exp2m1.rs give
 // (StepSix).
+#![tactic(auto)]
 
 ghost use Rattle.std.specs.Prelude.{◌≡◌, T};
 ghost use Rattle.exp2m1_whole.specs.Whole.{Whole, exp2m1_whole};

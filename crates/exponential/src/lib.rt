@@ -3,6 +3,7 @@
 // Each function promises the pair that the definition of its name in specs/Exponential.antt gives for the same operands, over the tables of
 // the crate power_tables and the constants of specs/Constants.antt. exp_1 and exp_2 ask for arguments in the range of specs/Range.antt, from
 // which it follows that the casts of k lose nothing and that its exponent word is at most 0x7ff.
+#![tactic(auto)]
 
 ghost use Rattle.std.specs.Prelude.{◌≡◌, ◌≤◌};
 ghost use Rattle.exponential.specs.Exponential.{q1, q2, i1, i2, exponent_word, scaled, times_power, exp1, exp2};

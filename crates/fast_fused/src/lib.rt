@@ -1,6 +1,8 @@
 // Fused multiply-add once more, quick where the exponents are near each other: the product and c then lie in two words with all their
 // digits, and neither is shifted down; and quick where the product is small beside c: then nothing cancels, and one word will do. All
 // other operands are handed to `multiply_add::fused_nearest`.
+#![tactic(auto)]
+
 ghost use Rattle.std.specs.Prelude.{◌≡◌, true, ℕ, ◌+◌, ◌-◌, ◌*◌, ◌^◌, ◌≤◌, ◌<◌};
 ghost use Rattle.std.specs.Float.Ieee.{to_bits};
 ghost use Rattle.std.specs.Float.{binary64};
@@ -63,7 +65,7 @@ fn shift_left(m: u64, k: u64) -> Wide
 }
 
 // A number with a sign.
-#[derive(Drop)]
+#[derive(Clone, Copy)]
 pub struct Signed {
     pub neg: bool,
     pub size: Wide,

@@ -1,4 +1,6 @@
 // fast_fused for C, where it is compared and timed as the fma that the score calls.
+#![tactic(auto)]
+
 ghost use Rattle.std.specs.Prelude.{◌≡◌};
 ghost use Rattle.rounding.specs.declared.Direction.TheVariants.{Nearest};
 ghost use Rattle.ieee754.specs.Operations.{fused_bits};

@@ -2,6 +2,8 @@
 //
 // The contracts are equations with the documents' frames on lists of bytes, in specs/Frame.antt. payload promises its place too
 // (specs/Part.antt). The results of a payload are in the crate answers: nothing here computes with floats.
+#![tactic(auto)]
+
 ghost use Rattle.std.specs.Prelude.{◌≡◌, ◌∷◌, ◌*◌, ◌/◌, ◌%◌, ◌≤◌, ◌<◌, length, drop};
 ghost use Rattle.rounding.specs.Named.{direction_of};
 ghost use Rattle.frames.specs.Frame.{direction_refusal, is_kind, kind_of, items_from, item_bytes, item_count, bad_payload, refusal_to};

@@ -1,11 +1,13 @@
 // Hexadecimal floats as text (document 02, A.1): the value of a digit, and the test of a text's form byte by byte. What the form is, and
 // what a text of it is worth, is defined in specs/Text.antt; specs/Form.antt states that the test decides the form.
+#![tactic(auto)]
+
 ghost use Rattle.std.specs.Prelude.{◌≡◌, ◌&&◌, ◌||◌, cond, leb, ltb, eqb};
 ghost use Rattle.hexadecimal.specs.Text.{digit_of, is_hexadecimal, is_decimal};
 ghost use Rattle.hexadecimal.specs.Test.{next_stage, is_last};
 
 // What of the form has been read.
-#[derive(Drop)]
+#[derive(Clone, Copy)]
 pub enum Stage {
     Start,
     Signed,

@@ -3,6 +3,8 @@
 //
 // A vector is `fused A B C WANT`, to nearest, or with fused_toward_zero, fused_up or fused_down in its place; `round X WANT`,
 // `floor X WANT` or `scale X N WANT`. Floats are bit patterns, and N is the two's complement of 32 bits.
+#![tactic(auto)]
+
 ghost use Rattle.std.specs.Prelude.{◌≡◌, ◌<◌};
 ghost use Rattle.std.specs.Int.{w32};
 ghost use Rattle.std.proofs.Common.{to_z};

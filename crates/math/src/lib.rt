@@ -1,5 +1,7 @@
 // The operations that the crate ieee754 defines, on f64, under the names of the math module that the port follows. Every
 // call is total, and its contract is an equation with the definition of the operation in ieee754's specs/Operations.antt.
+#![tactic(auto)]
+
 ghost use Rattle.std.specs.Prelude.{◌≡◌};
 ghost use Rattle.std.specs.Float.Ieee.{to_bits, of_bits};
 ghost use Rattle.std.specs.Float.{binary64};

@@ -1,6 +1,8 @@
 // What lasts from frame to frame, as the state shows it, and the answer to a whole frame, which may show it and goes into it.
 //
 // The contracts are equations with the definitions of specs/Memory.antt.
+#![tactic(auto)]
+
 ghost use Rattle.std.specs.Prelude.{◌≡◌, ◌≤◌, length};
 ghost use Rattle.frames.specs.Frame.{answer_room};
 ghost use Rattle.frames.specs.Body.{Body};
@@ -12,13 +14,13 @@ use frames::{REPORT, SHEET};
 
 // A field for each thing that lasts.
 #[repr(C)]
-#[derive(Drop)]
+#[derive(Clone, Copy)]
 pub struct View {
     pub counts: Counts,
 }
 
 // What is shown after an answer that was written, its length, and its refusal number or 0.
-#[derive(Drop)]
+#[derive(Clone, Copy)]
 pub struct Answered {
     pub view: View,
     pub len: usize,

@@ -4,6 +4,8 @@
 // The product of two significands lies in two words, and so does the addend, brought to the same number of digits. The
 // one of the smaller exponent is shifted down to the other's, with a sticky bit; then the sum, or the difference by
 // subtraction with a borrow, is rounded and packed once.
+#![tactic(auto)]
+
 ghost use Rattle.std.specs.Prelude.{◌≡◌, ℕ, ◌+◌, ◌*◌, ◌^◌, ◌≤◌, ◌<◌};
 ghost use Rattle.std.specs.Float.Ieee.{to_bits, of_bits};
 ghost use Rattle.std.specs.Float.{binary64};

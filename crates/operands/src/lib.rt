@@ -1,5 +1,7 @@
 // What the operations of the crate `ieee754` have in common: the code here takes a 64-bit pattern as a sign, and as a significand and an
 // exponent. The crates `multiply_add`, `integral` and `scaling` compute the operations.
+#![tactic(auto)]
+
 ghost use Rattle.std.specs.Prelude.{◌≡◌, true, cond, ◌+◌, ◌*◌, ◌^◌, ◌<◌};
 ghost use Rattle.std.specs.Float.Ieee.{unlike};
 ghost use Rattle.ieee754.specs.Operations.{quiet};
@@ -14,7 +16,7 @@ pub const NAN: u64 = 0x7ff8000000000000;
 const TOP: u64 = 0x8000000000000;
 
 // A finite number that is not zero, without its sign: m * 2^e in units of 2^-1126, with m of 53 digits.
-#[derive(Drop)]
+#[derive(Clone, Copy)]
 pub struct Parts {
     pub m: u64,
     pub e: u64,

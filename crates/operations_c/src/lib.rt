@@ -1,6 +1,8 @@
 // The operations for C, declared in include/weigher.h. Each function has the contract of the one it calls, for every argument. C has no enum
 // with values: a reply of fused in a direction is the number that is returned, 0 where there is a float, and the float behind the pointer
 // (specs/Told.antt of reply).
+#![tactic(auto)]
+
 ghost use Rattle.std.specs.Prelude.{◌≡◌};
 ghost use Rattle.rounding.specs.declared.Direction.TheVariants.{Nearest};
 ghost use Rattle.ieee754.specs.Operations.{fused_bits, round_bits, floor_bits, scale_bits};

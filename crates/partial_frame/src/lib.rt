@@ -1,6 +1,8 @@
 // The present frame of the service: its bytes so far, and the test whether any bytes leave what is held. The crate `pieces` takes bytes in.
 //
 // specs/State.antt says what is held for the bytes of a frame, and specs/Steps.antt how it goes on byte by byte.
+#![tactic(auto)]
+
 ghost use Rattle.std.specs.Prelude.{◌≡◌, ◌||◌, ◌<◌, eqb, drop};
 ghost use Rattle.frames.specs.Frame.{kept};
 ghost use Rattle.partial_frame.specs.State.{empty_frame, length_in, filled, all_zero, is_left};
@@ -11,7 +13,7 @@ use frames::LONGEST_BODY;
 // The present frame: how many of its bytes have come, its length bytes, and its body so far. Places not yet filled hold 0, and a body
 // that is not kept fills none.
 #[repr(C)]
-#[derive(Drop)]
+#[derive(Clone, Copy)]
 pub struct PartialFrame {
     pub count: usize,
     pub hi: u8,
@@ -20,7 +22,7 @@ pub struct PartialFrame {
 }
 
 // How far a piece got: the frame, the bytes used, and whether the frame is whole.
-#[derive(Drop)]
+#[derive(Clone, Copy)]
 pub struct Progress {
     pub frame: PartialFrame,
     pub used: usize,

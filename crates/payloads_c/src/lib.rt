@@ -1,6 +1,8 @@
 // payload and screening for C, declared in include/weigher.h. Each function has the contract of the one it calls, for every argument. C
 // has no slice to return and no enum with values: a payload is its start, and a reply of screening a tag and a number
 // (specs/Screening.antt).
+#![tactic(auto)]
+
 ghost use Rattle.std.specs.Prelude.{◌≡◌};
 ghost use Rattle.frames.specs.Part.{payload_from};
 ghost use Rattle.screening.specs.Screening.{screened};
@@ -17,7 +19,7 @@ const MISSING: u8 = 2;
 
 // A reply of screening: the refusal's number, or a place, or 0.
 #[repr(C)]
-#[derive(Drop)]
+#[derive(Clone, Copy)]
 pub struct Screening {
     pub tag: u8,
     pub number: usize,

@@ -3,6 +3,8 @@
 // A vector is a phase that gives a pair and `X HI LO`, or a table of step 8 and `X WANT`, bit patterns of floats. The phases are
 // `exp2m1_fast_tiny` and `polynomial_q` for any x, and for 1/8 <= x <= 1024 and -54 <= x <= -1/8 `exp_1`, of x * log(2), and `exp_2`. The
 // tables are `table_of_59` and `table_of_93`, and x is one of theirs.
+#![tactic(auto)]
+
 ghost use Rattle.exponential.specs.Range.{InRange};
 
 use exceptions::{Found, Stretch};

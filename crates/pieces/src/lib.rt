@@ -1,5 +1,7 @@
 // The bytes of a piece, taken into the present frame up to its end. Each promises the steps of that name in partial_frame's
 // specs/Steps.antt.
+#![tactic(auto)]
+
 ghost use Rattle.std.specs.Prelude.{◌≡◌, true, false, ◌≤◌, ◌<◌, length, drop};
 ghost use Rattle.frames.specs.Frame.{kept};
 ghost use Rattle.partial_frame.specs.State.{length_in};

@@ -1,5 +1,7 @@
 // Replays the stream of standard input: it is read whole and handed on in pieces of 1, 2, 3 and more bytes, with the smallest answer
 // buffer that is not refused, so that each call answers one frame at most. The answers are written as they come.
+#![tactic(auto)]
+
 ghost use Rattle.std.specs.Prelude.{◌≤◌, ◌<◌};
 
 use libc::STDOUT_FILENO;

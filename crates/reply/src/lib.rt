@@ -1,10 +1,12 @@
 // What a call replies that gives a float or refuses: `constant`, `fused` in a direction and `score_with`.
 //
 // tell promises the form of a reply for C: a number, and a result behind a pointer (specs/Told.antt).
+#![tactic(auto)]
+
 ghost use Rattle.std.specs.Prelude.{◌≡◌};
 ghost use Rattle.reply.specs.Told.{number, result};
 
-#[derive(Drop)]
+#[derive(Clone, Copy)]
 pub enum Reply {
     // The refusal's number.
     Refused(u8),

@@ -1,6 +1,8 @@
 // Rounding to binary64 in a direction, IEEE 754-2019 4.3: the one round-and-pack routine of every operation.
 // What rounding means is defined in specs/Rounding.antt. A significand may end in a sticky bit, which stands for what
 // was cut off below it; the contracts say of which exact numbers it is the significand (`Stands` of specs/Machine.antt).
+#![tactic(auto)]
+
 ghost use Rattle.std.specs.Prelude.{◌≡◌, ℕ, ◌+◌, ◌-◌, ◌*◌, ◌%◌, ◌^◌, ◌≤◌, ◌<◌, true, false};
 ghost use Rattle.std.specs.Int.Count.{count_leading_zeros};
 ghost use Rattle.std.specs.Float.Ieee.{to_bits};
@@ -14,7 +16,7 @@ ghost use Rattle.rounding.specs.Machine.{sign_bit, overflow_bits, bounded_bits, 
 use wide::Wide;
 
 // The rounding-direction attributes of 4.3.
-#[derive(Drop)]
+#[derive(Clone, Copy)]
 pub enum Direction {
     Nearest,
     TowardZero,
@@ -23,7 +25,7 @@ pub enum Direction {
 }
 
 // What a byte names (document 02, A.3).
-#[derive(Drop)]
+#[derive(Clone, Copy)]
 pub enum Named {
     Known(Direction),
     Unknown,

@@ -2,13 +2,15 @@
 //
 // answer_run promises what Answers of specs/Runs.antt says: the bytes used are whole frames, one after another, and their answers stand
 // in that order at the buffer's front.
+#![tactic(auto)]
+
 ghost use Rattle.runs.specs.Runs.{Answers, AnswersCounted};
 
 use frames::{ANSWER_ROOM, REPORT};
 use memory::View;
 
 // A run of whole frames: what is shown after it, its bytes, and the bytes of the answers to it.
-#[derive(Drop)]
+#[derive(Clone, Copy)]
 pub struct Run {
     pub view: View,
     pub used: usize,
@@ -16,7 +18,7 @@ pub struct Run {
 }
 
 // The same, where so many accepted and refused frames are still to be added to what is shown.
-#[derive(Drop)]
+#[derive(Clone, Copy)]
 struct Counted {
     view: View,
     accepted: u64,

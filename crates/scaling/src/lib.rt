@@ -2,6 +2,8 @@
 // `scale_bits` of ieee754's specs/Operations.antt.
 //
 // Exponents past those of every result are brought to a bound, whose rounding is the same.
+#![tactic(auto)]
+
 ghost use Rattle.std.specs.Prelude.{◌≡◌, ◌≤◌};
 ghost use Rattle.operands.specs.Machine.{Regular, scaled_exponent};
 ghost use Rattle.ieee754.specs.Operations.{scale_bits};

@@ -1,6 +1,8 @@
 // The score for C, declared in include/weigher.h. Each function has the contract of the one it calls, for every argument. C has no enum with
 // values: a reply of score_with is the number that is returned, 0 where there is a score, and the score behind the pointer (specs/Told.antt
 // of reply).
+#![tactic(auto)]
+
 ghost use Rattle.std.specs.Prelude.{◌≡◌};
 ghost use Rattle.reply.specs.Told.{number, result};
 ghost use Rattle.exp2m1.specs.Score.{score_bits};

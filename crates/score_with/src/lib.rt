@@ -2,6 +2,7 @@
 //
 // score_with promises, for every list and 64-bit pattern, what scoredWith of specs/Score.antt gives: the list's refusal, or the score. The
 // functions over the slice read its entries and hand them on; what is decided of an entry stands in exception_list.
+#![tactic(auto)]
 
 ghost use Rattle.std.specs.Prelude.{◌≡◌, List, ◌≤◌, length};
 ghost use Rattle.pair.specs.Pair.{bits};

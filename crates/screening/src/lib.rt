@@ -1,11 +1,13 @@
 // Screening a kind 1 payload for weights that are no number, before it is sent.
 //
 // The reply is screened of specs/Screening.antt, for every payload: refusal 5, or that there is no NaN, or the place of the first.
+#![tactic(auto)]
+
 ghost use Rattle.std.specs.Prelude.{◌≡◌, ◌+◌, ◌≤◌, length};
 ghost use Rattle.screening.specs.Screening.{screened, is_nan};
 ghost use Rattle.words.specs.Bytes.{number_at};
 
-#[derive(Drop)]
+#[derive(Clone, Copy)]
 pub enum Screened {
     // The refusal's number.
     Refused(u8),

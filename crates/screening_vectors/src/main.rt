@@ -2,6 +2,8 @@
 //
 // A vector is `PAYLOAD TAG NUMBER`: the payload's bytes, two digits each, and the reply, 0 and the refusal's number, 1 and 0 where no weight is
 // a NaN, or 2 and the place of the first. A failure's got is 0.
+#![tactic(auto)]
+
 use screening::Screened;
 use vectors::{Answer, Number};
 

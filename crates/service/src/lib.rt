@@ -3,6 +3,8 @@
 // Each call goes through for every state, piece and buffer, and promises by an equation all that it returns and every byte of the
 // buffer after it: take_of and closeOf of specs/Service.antt, which go by document 01's plain book (specs/Book.antt).
 // The crate demands states demands 1 and 3 over whole lists of calls, and proves them.
+#![tactic(auto)]
+
 ghost use Rattle.std.specs.Prelude.{◌≡◌, false, ◌≤◌, length};
 ghost use Rattle.frames.specs.Frame.{answer_room, whole};
 ghost use Rattle.partial_frame.specs.State.{empty_frame, length_in};
@@ -24,7 +26,7 @@ const UNFINISHED: u8 = 8;
 
 // All that the service knows between calls. Any value may be handed over.
 #[repr(C)]
-#[derive(Drop)]
+#[derive(Clone, Copy)]
 pub struct State {
     pub frame: PartialFrame,
     pub view: View,
@@ -32,7 +34,7 @@ pub struct State {
 
 // What take returns; the refusal is a number or 0.
 #[repr(C)]
-#[derive(Drop)]
+#[derive(Clone, Copy)]
 pub struct Taken {
     pub state: State,
     pub used: usize,
@@ -42,7 +44,7 @@ pub struct Taken {
 
 // What close returns.
 #[repr(C)]
-#[derive(Drop)]
+#[derive(Clone, Copy)]
 pub struct Closed {
     pub state: State,
     pub len: usize,

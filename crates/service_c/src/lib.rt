@@ -1,4 +1,6 @@
 // The service for C, declared in include/weigher.h. Each function has the contract of the one it calls, for every argument.
+#![tactic(auto)]
+
 ghost use Rattle.std.specs.Prelude.{◌≡◌};
 ghost use Rattle.service.specs.Service.{fresh_state, take_of, close_of, taken_of, closed_of};
 ghost use Rattle.delivery.specs.Delivery.{Delivers};

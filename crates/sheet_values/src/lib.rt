@@ -1,6 +1,8 @@
 // The values of a household sheet's lines, each from those of earlier lines, written into a buffer.
 //
 // The contracts are equations with the definitions of specs/Values.antt.
+#![tactic(auto)]
+
 ghost use Rattle.std.specs.Prelude.{◌≡◌, ◌++◌, ◌*◌, ◌≤◌, length, drop};
 ghost use Rattle.words.specs.Bytes.{words_of};
 ghost use Rattle.sheets.specs.Sheet.{refusal_of};

@@ -2,6 +2,8 @@
 //
 // The contracts are equations with the definitions of specs/Sheet.antt, for every payload. The values of the lines are in the crate
 // sheet_values: nothing here computes with floats.
+#![tactic(auto)]
+
 ghost use Rattle.std.specs.Prelude.{◌≡◌, ◌+◌, ◌≤◌, length, take, drop};
 ghost use Rattle.sheets.specs.Sheet.{all_zero, line_at, refusal_of, sheet_refusal};
 
@@ -14,7 +16,7 @@ const BAD_FORM: u8 = 14;
 const BAD_NUMBER: u8 = 15;
 
 // A line: a weight, or the numbers of two lines whose values are added.
-#[derive(Drop)]
+#[derive(Clone, Copy)]
 pub enum Line {
     Weight(u64),
     Sum(u8, u8),

@@ -3,6 +3,8 @@
 // where its answers are not those of the whole stream, handed on at once, where the state after a piece is not document 01's for the bytes
 // of the present frame, where its counts or those of the report are not the counts over the answers that came, and where a refused call
 // gives another number or changes anything. The stream has to end inside a frame. Prints a line for each run that fails, and the counts.
+#![tactic(auto)]
+
 ghost use Rattle.std.specs.Prelude.{◌≤◌, ◌<◌, length};
 ghost use Rattle.io.specs.Counts.{IsPrefixLen};
 
@@ -32,7 +34,7 @@ const LONGEST_PIECE: usize = 64;
 const REPORT_BYTES: usize = 28;
 
 // The counts over the answers that came, each stopped at its end.
-#[derive(Drop)]
+#[derive(Clone, Copy)]
 struct Tally {
     accepted: u64,
     refused: u64,
@@ -41,7 +43,7 @@ struct Tally {
 
 // The service's state, the counts that it has to show, how many bytes of the wanted answers have come, or FAILED, how many bytes the last
 // take used, and where in the stream the present frame starts.
-#[derive(Drop)]
+#[derive(Clone, Copy)]
 struct Run {
     state: State,
     tally: Tally,

@@ -1,4 +1,6 @@
 // Standard input and output, whatever signals and short writes there are. The contracts promise that the calls are safe and end.
+#![tactic(auto)]
+
 use libc::{STDIN_FILENO, STDOUT_FILENO};
 
 // One read. One that a signal interrupts is made again; the count of turns outlasts any machine.

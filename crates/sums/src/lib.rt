@@ -1,4 +1,6 @@
 // The sum of two floats as patterns, rounded to nearest; where it is a NaN, the one that fused multiply-add gives.
+#![tactic(auto)]
+
 ghost use Rattle.std.specs.Prelude.{◌≡◌};
 ghost use Rattle.sums.specs.Sum.{sum_bits};
 

@@ -1,5 +1,7 @@
 // The table T1 of exp2m1, 64 pairs, as the crate power_tables has it by its bit patterns. It has a crate of its own because a check of
 // 64 pairs is slow.
+#![tactic(auto)]
+
 ghost use Rattle.std.specs.Prelude.{◌≡◌, ◌<◌, get_or};
 ghost use Rattle.power_tables.specs.Tables.{T1, no_pair};
 

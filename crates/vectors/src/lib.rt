@@ -3,6 +3,8 @@
 // A program over it reads the text, goes from line to line, finds each line's answer, and has the failures and the count printed. The
 // contract of hex says which number a text is (specs/Hexadecimal.antt), and that of next that the text ends (specs/Text.antt); the others
 // promise that they are safe and end.
+#![tactic(auto)]
+
 ghost use Rattle.std.specs.Prelude.{◌≡◌, ◌≤◌, ◌<◌, length};
 ghost use Rattle.io.specs.Counts.{IsPrefixLen};
 ghost use Rattle.vectors.specs.Hexadecimal.{digit_of, number_of};
@@ -10,28 +12,28 @@ ghost use Rattle.vectors.specs.Text.{Reached};
 
 use libc::{STDIN_FILENO, STDOUT_FILENO};
 
-#[derive(Drop)]
+#[derive(Clone, Copy)]
 pub enum Number {
     Value(u64),
     Malformed,
 }
 
 // The first count of values are a line's numbers. The count is 0 where a field is no number, and where there are more than four.
-#[derive(Drop)]
+#[derive(Clone, Copy)]
 pub struct Numbers {
     pub count: usize,
     pub values: [u64; 4],
 }
 
 // What a line's operation gave and what it should, or that the line is no vector.
-#[derive(Drop)]
+#[derive(Clone, Copy)]
 pub enum Answer {
     Found { got: u64, want: u64 },
     Malformed,
 }
 
 // How far a text has been run: where its next line starts, how many lines there were, and how many failed.
-#[derive(Drop)]
+#[derive(Clone, Copy)]
 pub struct Progress {
     pub at: usize,
     pub lines: u64,

@@ -2,6 +2,8 @@
 // the input it closes the service. A read that fails and an output that takes nothing more end it with a line on standard error.
 //
 // All that decides an answer is in the crates service and delivery.
+#![tactic(auto)]
+
 ghost use Rattle.std.specs.Prelude.{◌≡◌, true, ◌≤◌, length};
 ghost use Rattle.frames.specs.Frame.{answer_room};
 ghost use Rattle.service.specs.Service.{is_good};
@@ -20,7 +22,7 @@ fn answer_space() -> [u8; ANSWERS]
     [0; ANSWERS]
 }
 
-#[derive(Drop)]
+#[derive(Clone, Copy)]
 struct Served {
     state: State,
     written: bool,

@@ -1,11 +1,13 @@
 // Numbers below 2^128 in two 64-bit words, for the product of two significands: product, sum, difference, order, and
 // the right shift that keeps a sticky bit. Every call is total; each contract is an equation over `value`, which
 // specs/Words.antt defines.
+#![tactic(auto)]
+
 ghost use Rattle.std.specs.Prelude.{◌≡◌, ◌+◌, ◌*◌, ◌/◌, ◌%◌, ◌^◌, ◌<◌, ◌≤◌, if◌then◌else◌, ◌==◌, nat_lt};
 ghost use Rattle.wide.specs.Words.{value, sticky, jammed};
 
 // hi * 2^64 + lo.
-#[derive(Drop)]
+#[derive(Clone, Copy)]
 pub struct Wide {
     pub hi: u64,
     pub lo: u64,

@@ -1,5 +1,7 @@
 // Whole numbers as big-endian bytes: read at a place of a slice, and written at a slice's front. The contracts are equations with
 // the definitions of specs/Bytes.antt.
+#![tactic(auto)]
+
 ghost use Rattle.std.specs.Prelude.{◌≡◌, ◌++◌, ◌+◌, ◌*◌, ◌≤◌, ◌<◌, length, drop};
 ghost use Rattle.words.specs.Bytes.{number_at, word_bytes};
 

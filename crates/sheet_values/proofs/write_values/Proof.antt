@@ -47,7 +47,7 @@ value-of-requires c κs =
     let l = t.before.loop in
     let s = t.before.before.before.before in
     let p = s.args.payload.now in (
-      ap (refusal_of l.i) (line_is p l.i l.from l.invariant.1 c.before.line_at_lem.ensures) ∙ all_good_lem p s.args.n s.requires.0.good l.i t.loop-test.true,
+      ap (refusal_of l.i) (line_is p l.i l.from l.invariant.1 c.before.line-at.ensures) ∙ all_good_lem p s.args.n s.requires.0.good l.i t.loop-test.true,
       omega (arith, s.requires.0.few),
     )
 
@@ -100,7 +100,7 @@ loop-again c =
     let l = t.before.loop in
     let s = t.before.before.before.before in
     let p = s.args.payload.now in
-    let line = line_is p l.i l.from l.invariant.1 c.before.before.before.before.before.before.line_at_lem.ensures in
+    let line = line_is p l.i l.from l.invariant.1 c.before.before.before.before.before.before.line-at.ensures in
     let value = value_is p l.values s.args.n l.i s.requires.0.good t.loop-test.true l.invariant.4 line c.before.before.before.before.value-of.ensures in (
       omega arith,
       omega arith,

@@ -41,7 +41,7 @@ returns c =
     let t = c.before.before.before in
     let l = t.before.loop in
     let p = t.before.before.before.args.payload.now in
-    scan_stops p l.i (omega (arith, t.loop-test.true)) l.invariant.2 (refused p l.i l.at l.invariant.0 c.before.before.line_at_lem.ensures c.before.line-refusal.ensures) c.if1.true
+    scan_stops p l.i (omega (arith, t.loop-test.true)) l.invariant.2 (refused p l.i l.at l.invariant.0 c.before.before.line-at.ensures c.before.line-refusal.ensures) c.if1.true
 
 add-i : tie.Need-overflow-add-i invariant-loop decreases-loop
 add-i c = omega arith
@@ -61,7 +61,7 @@ loop-again c =
       omega arith,
       ap (first_refusal p) (add-one l.i)
           ∙ scan_good p l.i l.invariant.2
-          ∙ sym (refused p l.i l.at l.invariant.0 c.before.before.line_at_lem.ensures c.before.line-refusal.ensures)
+          ∙ sym (refused p l.i l.at l.invariant.0 c.before.before.line-at.ensures c.before.line-refusal.ensures)
           ∙ c.if1.false,
     )
 

@@ -9,17 +9,16 @@ use Rattle.exceptions.specs.declared.Stretch.{Stretch}
 use Rattle.exceptions.specs.declared.Found.{Found}
 use Rattle.exceptions.specs.Lookup.{start, end, entry_at, entries_from, entries, find, Finds}
 use Rattle.exceptions.proofs.Scan.{finds}
-use Rattle.exceptions.proofs.exception.Statement.{statement}
-use Rattle.exceptions.proofs.exception.Tie as tie
+use Rattle.exceptions.proofs.exception.Goals as goal
 
-lookup-exception-requires : tie.Need-lookup-exception-requires
+pub lookup_exception-requires : goal.lookup_exception-requires
 unfolding exceptions
-lookup-exception-requires c κs = (
+lookup_exception-requires c = (
   refl,
   record {
-    of = c.before.before.before.args.stretch;
-    from = le_of_eq (sym c.before.before.start_of.ensures);
-    upto = le_of_eq c.before.end_of_lem.ensures;
+    of = c.args.stretch;
+    from = le_of_eq (sym c.start_of-first.ensures);
+    upto = le_of_eq c.end_of-past.ensures;
   },
 )
 
@@ -27,11 +26,8 @@ found : (s : Stretch) (x : Float) {a b : ℕ} {r : Found} → a ≡ start s → 
 unfolding entries
 found s x p q e = cc
 
-returns : tie.Need-returns
+pub returns : goal.returns
 returns c =
-    let s = c.before.before.before.before in
-    let e = found s.args.stretch s.args.x c.before.before.before.start_of.ensures c.before.before.end_of_lem.ensures c.lookup-exception.ensures in
+    let s = c in
+    let e = found s.args.stretch s.args.x c.start_of-first.ensures c.end_of-past.ensures c.lookup_exception.ensures in
     (e, subst (λ (r : Found). Finds (entries s.args.stretch) s.args.x r) (sym e) (finds (entries s.args.stretch) s.args.x))
-
-pub exception-spec : {M : Type 1} → statement M
-exception-spec = tie.close (tie.spec (λ c κs. search rules) (λ c κs. search rules) lookup-exception-requires returns)
