@@ -1,5 +1,5 @@
 -- `wide::multiply` meets its contract. Assumes nothing.
-use Rattle.std.proofs.Common.{ℕ, ◌+◌, ◌*◌, ◌^◌, ◌∙◌, ap₂, div-add-mod', rules}
+use Rattle.std.proofs.Common.{ℕ, ◌+◌, ◌*◌, ◌^◌, ◌∙◌, ap₂, div-add-mod'}
 use Rattle.wide.proofs.multiply.Goals as goal
 
 pub returns : goal.returns

@@ -1,5 +1,5 @@
 -- `wide::multiply_low` meets its contract. Assumes nothing.
-use Rattle.std.proofs.Common.{arith, rules}
+use Rattle.std.proofs.Common.{arith}
 use Rattle.wide.proofs.Product.{digits, low_word}
 use Rattle.wide.proofs.multiply_low.Goals as goal
 

@@ -1,5 +1,5 @@
 -- `wide::set_sticky` meets its contract. Assumes nothing.
-use Rattle.std.proofs.Common.{sym, rules}
+use Rattle.std.proofs.Common.{sym}
 use Rattle.wide.proofs.Sticky.{sticky_none, sticky_some}
 use Rattle.wide.proofs.set_sticky.Goals as goal
 

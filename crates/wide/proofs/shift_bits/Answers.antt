@@ -1,5 +1,5 @@
 -- `wide::shift_bits` meets its contract. Assumes nothing.
-use Rattle.std.proofs.Common.{arith, rules}
+use Rattle.std.proofs.Common.{arith}
 use Rattle.wide.proofs.Shifts.{low_fits, bits_jammed}
 use Rattle.wide.proofs.shift_bits.Goals as goal
 

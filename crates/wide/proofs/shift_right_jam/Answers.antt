@@ -1,5 +1,5 @@
 -- `wide::shift_right_jam` meets its contract. Assumes nothing.
-use Rattle.std.proofs.Common.{◌%◌, ◌^◌, ap, ◌∙◌, rules}
+use Rattle.std.proofs.Common.{◌%◌, ◌^◌, ap, ◌∙◌}
 use lib.Arith.{digits_lt}
 use Rattle.wide.specs.declared.Wide.{Wide}
 use Rattle.wide.specs.Words.{value, jammed}

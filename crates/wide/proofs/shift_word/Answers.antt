@@ -1,5 +1,4 @@
 -- `wide::shift_word` meets its contract. Assumes nothing.
-use Rattle.std.proofs.Common.{rules}
 use Rattle.wide.proofs.Shifts.{word_jammed}
 use Rattle.wide.proofs.shift_word.Goals as goal
 

@@ -2,7 +2,6 @@
 use mathlib.Core.Path.{ap₂, ◌∙◌}
 use Prim.Native.Nat.{ℕ, ◌+◌, ◌*◌}
 use Rattle.words.proofs.Numbers.{pair}
-use borrow.Author.Rules.{rules}
 use Rattle.words.proofs.read_u16.Goals as goal
 
 pub returns : goal.returns

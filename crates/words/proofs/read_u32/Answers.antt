@@ -1,7 +1,6 @@
 -- `words::read_u32` meets its contract: four bytes make the number. Assumes nothing.
 use mathlib.Core.Path.{◌∙◌}
 use Rattle.words.proofs.Numbers.{four}
-use borrow.Author.Rules.{rules}
 use Rattle.words.proofs.read_u32.Goals as goal
 
 pub returns : goal.returns

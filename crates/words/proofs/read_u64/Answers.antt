@@ -3,7 +3,6 @@ use mathlib.Core.Path.{ap₂, ◌∙◌}
 use Prim.Native.Nat.{ℕ, ◌+◌, ◌*◌}
 use native.Mathlib.Omega.{arith}
 use Rattle.words.proofs.Numbers.{join}
-use borrow.Author.Rules.{rules}
 use Rattle.words.proofs.read_u64.Goals as goal
 
 pub returns : goal.returns

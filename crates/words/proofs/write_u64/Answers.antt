@@ -3,7 +3,6 @@ use native.Mathlib.Omega.{arith}
 use lib.ListN.{length-set}
 use lib.Seq.{sets-eq}
 use Rattle.words.specs.Bytes.{last_bytes, word_bytes}
-use borrow.Author.Rules.{rules}
 use Rattle.words.proofs.write_u64.Goals as goal
 
 pub bounds-out-1 : goal.bounds-out-1
