@@ -9,9 +9,9 @@ number (Refused n) = n
 number (Bits b) = 0
 
 -- what the result holds after the call, if it held old before
-abbrev pub result : Reply → ℕ → ℕ
-result (Refused n) old = old
-result (Bits b) old = b
+abbrev pub content : Reply → ℕ → ℕ
+content (Refused n) old = old
+content (Bits b) old = b
 
 -- a refusal can be told from a float: where the number is 0, and nowhere else, the result is a float's
 abbrev pub Apart : Reply → Type 0

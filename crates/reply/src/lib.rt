@@ -4,7 +4,7 @@
 #![tactic(auto)]
 
 ghost use Rattle.std.specs.Prelude.{◌≡◌};
-ghost use Rattle.reply.specs.Told.{number, result};
+ghost use Rattle.reply.specs.Told.{number, content};
 
 #[derive(Clone, Copy)]
 pub enum Reply {
@@ -16,7 +16,8 @@ pub enum Reply {
 
 // Tells C of a reply. Where it is a refusal, the result keeps its content.
 pub fn tell(reply: Reply, out: &mut u64) -> u8
-    ensures* { λ r. ⌜ (r ≡ number reply) × (out.new ≡ result reply out.old) ⌝ }
+    ensures number { result ≡ number reply }
+    ensures content { out.new ≡ content reply out.old }
 {
     match reply {
         Reply::Refused(number) => number,
