@@ -2,7 +2,6 @@
 use mathlib.Core.Path.{◌≡◌, refl, sym, subst}
 use Prim.Native.Nat.{ℕ, ◌-◌}
 use native.Mathlib.Nat.{le_of_eq}
-use borrow.Author.Rules.{rules}
 use lib.Ieee.{Float}
 use Rattle.exceptions.specs.Table.{exceptions}
 use Rattle.exceptions.specs.declared.Stretch.{Stretch}
@@ -26,8 +25,10 @@ found : (s : Stretch) (x : Float) {a b : ℕ} {r : Found} → a ≡ start s → 
 unfolding entries
 found s x p q e = cc
 
-pub returns : goal.returns
-returns c =
-    let s = c in
-    let e = found s.args.stretch s.args.x c.start_of-first.ensures c.end_of-past.ensures c.lookup_exception.ensures in
-    (e, subst (λ (r : Found). Finds (entries s.args.stretch) s.args.x r) (sym e) (finds (entries s.args.stretch) s.args.x))
+pub returns-clause-value : goal.returns-clause-value
+returns-clause-value c = found c.args.stretch c.args.x c.start_of-first.ensures c.end_of-past.ensures c.lookup_exception.ensures
+
+pub returns-clause-exactly : goal.returns-clause-exactly
+returns-clause-exactly c =
+    let e = found c.args.stretch c.args.x c.start_of-first.ensures c.end_of-past.ensures c.lookup_exception.ensures in
+    subst (λ (r : Found). Finds (entries c.args.stretch) c.args.x r) (sym e) (finds (entries c.args.stretch) c.args.x)
