@@ -1,11 +1,9 @@
 -- `exception_list::is_finite` meets its contract: a number lies between the infinities, and nothing else does. Assumes nothing.
 use mathlib.Core.Path.{◌≡◌, refl, sym, ap, ◌∙◌}
-use mathlib.Core.Bool.{Bool, true, false, true≢false}
+use mathlib.Core.Bool.{true, false, true≢false}
 use lib.Ieee.{Float, nan, inf, fin, lt}
 use lib.Ieee.Scale.{finite}
-use borrow.Author.Rules.{rules}
-use Rattle.exception_list.proofs.is_finite.Statement.{statement}
-use Rattle.exception_list.proofs.is_finite.Tie as tie
+use Rattle.exception_list.proofs.is_finite.Goals as goal
 
 inside : (x : Float) → lt (inf true) x ≡ true → lt x (inf false) ≡ finite x
 unfolding lt
@@ -26,11 +24,8 @@ within x e f h = ap (lt x) f ∙ inside x (ap (λ (m : Float). lt m x) (sym e) �
 beyond : (x : Float) {m : Float} → m ≡ inf true → lt m x ≡ false → false ≡ finite x
 beyond x e h = outside x (ap (λ (m : Float). lt m x) (sym e) ∙ h)
 
-returns : tie.Need-returns
-returns c = let c2 = c.before.before in within c2.before.args.x c2.minus-infinity.ensures c.infinity.ensures c.before.if1.true
+pub returns-then-minus_infinity-x : goal.returns-then-minus_infinity-x
+returns-then-minus_infinity-x c = let c2 = c in within c2.args.x c2.minus_infinity.ensures c.infinity.ensures c.if-minus_infinity-x.true
 
-returns-2 : tie.Need-returns-2
-returns-2 c = let c1 = c.before in beyond c1.before.args.x c1.minus-infinity.ensures c.if1.false
-
-pub is-finite-spec : {M : Type 1} → statement M
-is-finite-spec = tie.close (tie.spec (λ c κs. search rules) (λ c κs. search rules) returns returns-2)
+pub returns-else-minus_infinity-x : goal.returns-else-minus_infinity-x
+returns-else-minus_infinity-x c = let c1 = c in beyond c1.args.x c1.minus_infinity.ensures c.if-minus_infinity-x.false
