@@ -116,14 +116,14 @@ parts_of_lem parts text h =
     let p-not : (c : ℕ → Bool) → Apart c is_p → Stops c (from_p parts) = λ c apart. stops c is_p apart parts.p (from_exponent_sign parts) h.p (λ e. absurd (omega (arith, h.p_once))) in
     let after-whole = stops is_hexadecimal is_point point_not_digit parts.point (from_fraction parts) h.point (λ e. rw (none_before parts.fraction (from_p parts) (h.pointless e)) (p-not is_hexadecimal p_not_digit)) in
     let after-point = stops is_point is_hexadecimal digit_not_point parts.fraction (from_p parts) h.fraction (λ e. p-not is_point p_not_point) in
-    let after-p = stops is_p is_sign sign_not_p parts.exponent_sign parts.exponent h.exponent_sign_lem (λ e. all_stop is_p is_decimal decimal_not_p parts.exponent h.exponent) in
+    let after-p = stops is_p is_sign sign_not_p parts.exponent_sign parts.exponent h.exponent_sign (λ e. all_stop is_p is_decimal decimal_not_p parts.exponent h.exponent) in
     let sign = cut is_sign parts.sign (from_zero parts) h.sign after-sign in
     let prefix = cut_prefix parts.zero parts.x (from_whole parts) h.zero_once h.x_once in
     let whole = cut is_hexadecimal parts.whole (from_point parts) h.whole after-whole in
     let point = cut is_point parts.point (from_fraction parts) h.point after-point in
     let fraction = cut is_hexadecimal parts.fraction (from_p parts) h.fraction (p-not is_hexadecimal p_not_digit) in
     let p = cut is_p parts.p (from_exponent_sign parts) h.p after-p in
-    let exponent = cut is_sign parts.exponent_sign parts.exponent h.exponent_sign_lem (all_stop is_sign is_decimal decimal_not_sign parts.exponent h.exponent) in
+    let exponent = cut is_sign parts.exponent_sign parts.exponent h.exponent_sign (all_stop is_sign is_decimal decimal_not_sign parts.exponent h.exponent) in
     rw (h.spelled ∙ nested parts) (simp (sign.0, sign.1, prefix.0, prefix.1, prefix.2, whole.0, whole.1, point.0, point.1, fraction.0, fraction.1, p.0, p.1, exponent.0, exponent.1))
 
 pub one_reading : OneReading
@@ -141,7 +141,7 @@ stage_form parts text h =
     ∙ stage_part _ parts.x (from_whole parts) Prefix s.x
     ∙ ap (λ (r : Stage). stage_from r (from_whole parts)) s.prefix
     ∙ stage_part Prefix parts.whole (from_point parts) Whole s.whole
-    ∙ stage_part _ parts.point (from_fraction parts) s.pointStage s.point
+    ∙ stage_part _ parts.point (from_fraction parts) s.point_stage s.point
     ∙ stage_part _ parts.fraction (from_p parts) Fraction s.fraction
     ∙ stage_part _ parts.p (from_exponent_sign parts) P s.p
     ∙ ap (λ (r : Stage). stage_from r (from_exponent_sign parts)) s.at_p
@@ -328,8 +328,8 @@ form text r =
         digits = x.then.1;
         p = and_i (is_p p.byte) true p.passes tt;
         p_once = refl;
-        exponent_sign_lem = exponent.passes;
-        exponent_sign-once = exponent.once;
+        exponent_sign = exponent.passes;
+        exponent_sign_once = exponent.once;
         exponent = exponent.then.0;
         exponent_digits = exponent.then.1;
         spelled = simp append_assoc (cc);

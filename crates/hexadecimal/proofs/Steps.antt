@@ -128,25 +128,25 @@ after_digits Q whole point (b ∷ fraction) h w d f = f
 pub steps : (parts : Parts) (text : List ℕ) → Spells parts text → Steps parts
 unfolding next_stage digit_of
 steps parts text h =
-    let zero : (s : Stage) → next_stage s 48 ≡ Zero → Leads s parts.zero Zero = λ s e. once is_zero s Zero (λ b t. rw (eqb→eq b 48 t) e) parts.zero h.zero (omega (arith, h.zero-once)) in
-    let p : (s : Stage) → next_stage s 112 ≡ P → next_stage s 80 ≡ P → Leads s parts.p P = λ s e f. once is_p s P (either 112 80 (λ (b : ℕ). next_stage s b ≡ P) e f) parts.p h.p (omega (arith, h.p-once)) in
+    let zero : (s : Stage) → next_stage s 48 ≡ Zero → Leads s parts.zero Zero = λ s e. once is_zero s Zero (λ b t. rw (eqb→eq b 48 t) e) parts.zero h.zero (omega (arith, h.zero_once)) in
+    let p : (s : Stage) → next_stage s 112 ≡ P → next_stage s 80 ≡ P → Leads s parts.p P = λ s e f. once is_p s P (either 112 80 (λ (b : ℕ). next_stage s b ≡ P) e f) parts.p h.p (omega (arith, h.p_once)) in
     let exponent : (s : Stage) → ((b : ℕ) → T (is_decimal b) → next_stage s b ≡ Exponent) → Leads s parts.exponent Exponent = λ s e. many is_decimal s Exponent e (λ b. chosen (is_decimal b) Exponent _) parts.exponent h.exponent in
     record {
-      sign = once is_sign Start Signed (λ b. chosen (is_sign b) Signed _) parts.sign h.sign h.sign-once;
+      sign = once is_sign Start Signed (λ b. chosen (is_sign b) Signed _) parts.sign h.sign h.sign_once;
       zero = after (λ (s : Stage). Leads s parts.zero Zero) Start Signed parts.sign (zero Start refl) (zero Signed refl);
-      x = rw (after_some (end_of Start parts.sign Signed) Zero parts.zero (omega (arith, h.zero-once)))
-          (once is_x Zero Prefix (λ b. chosen (is_x b) Prefix _) parts.x h.x (omega (arith, h.x-once)));
-      prefix = after_some _ Prefix parts.x (omega (arith, h.x-once));
+      x = rw (after_some (end_of Start parts.sign Signed) Zero parts.zero (omega (arith, h.zero_once)))
+          (once is_x Zero Prefix (λ b. chosen (is_x b) Prefix _) parts.x h.x (omega (arith, h.x_once)));
+      prefix = after_some _ Prefix parts.x (omega (arith, h.x_once));
       whole = many is_hexadecimal Prefix Whole (λ b. chosen (is_hexadecimal b) Whole _) (λ b. chosen (is_hexadecimal b) Whole _) parts.whole h.whole;
       point_stage = point_after parts.whole;
       point_stage-is = after (λ (s : Stage). (s ≡ LonePoint) ⊎ (s ≡ Point)) LonePoint Point parts.whole (inl refl) (inr refl);
-      point = point_leads parts.whole parts.point h.point h.point-once;
+      point = point_leads parts.whole parts.point h.point h.point_once;
       fraction = fraction_leads _ parts.whole parts.point parts.fraction h.fraction h.pointless;
       p = after_digits (λ (s : Stage). Leads s parts.p P) parts.whole parts.point parts.fraction h.digits (p Whole refl refl) (p Point refl refl) (p Fraction refl refl);
-      at_p = after_some _ P parts.p (omega (arith, h.p-once));
-      exponent_sign = once is_sign P ExponentSigned (λ b. chosen (is_sign b) ExponentSigned _) parts.exponent_sign h.exponent-sign h.exponent-sign-once;
+      at_p = after_some _ P parts.p (omega (arith, h.p_once));
+      exponent_sign = once is_sign P ExponentSigned (λ b. chosen (is_sign b) ExponentSigned _) parts.exponent_sign h.exponent_sign h.exponent_sign_once;
       exponent = after (λ (s : Stage). Leads s parts.exponent Exponent) P ExponentSigned parts.exponent_sign
           (exponent P (λ b t. rw (decimal_not_sign b t) (chosen (is_decimal b) Exponent _ t)))
           (exponent ExponentSigned (λ b. chosen (is_decimal b) Exponent _));
-      last = after_some _ Exponent parts.exponent h.exponent-digits;
+      last = after_some _ Exponent parts.exponent h.exponent_digits;
     }

@@ -71,8 +71,8 @@ pub record Spells (parts : Parts) (text : List ℕ) : Type 0 where
   pub digits : 0 < length parts.whole + length parts.fraction
   pub p : T (every is_p parts.p)
   pub p_once : length parts.p ≡ 1
-  pub exponent_sign_lem : T (every is_sign parts.exponent_sign)
-  pub exponent_sign-once : length parts.exponent_sign ≤ 1
+  pub exponent_sign : T (every is_sign parts.exponent_sign)
+  pub exponent_sign_once : length parts.exponent_sign ≤ 1
   pub exponent : T (every is_decimal parts.exponent)
   pub exponent_digits : 0 < length parts.exponent
   pub spelled : text ≡ spelling parts

@@ -1,16 +1,14 @@
 -- `hexadecimal::digit` meets its contract: in each range of bytes the value that is picked is the definition's. Assumes nothing.
-use Prim.Native.Nat.{ℕ, ◌+◌, ◌-◌, ◌%◌, ◌≤◌, ◌<◌}
-use mathlib.Core.Path.{◌≡◌, refl, ap, ◌∙◌}
+use Prim.Native.Nat.{ℕ, ◌+◌, ◌%◌, ◌≤◌, ◌<◌}
+use mathlib.Core.Path.{◌≡◌, refl, ◌∙◌}
 use mathlib.Core.Logic.{⊎_elim}
 use mathlib.Core.Bool.{Bool, ◌&&◌, cond}
 use native.Mathlib.Omega.{arith}
 use lib.Dec.{leb, ltb}
-use borrow.Author.Rules.{rules}
 use borrow.Author.Tests.{lt-ltb, le-ltb, le-leb, lt-leb}
 use Rattle.wide.proofs.Nat.{le_or_gt}
 use Rattle.hexadecimal.specs.Text.{digit_of}
-use Rattle.hexadecimal.proofs.digit.Statement.{statement}
-use Rattle.hexadecimal.proofs.digit.Tie as tie
+use Rattle.hexadecimal.proofs.digit.Goals as goal
 
 picked : ℕ → ℕ
 picked b = cond (leb 48 b && ltb b 58) (b % 16) (cond (leb 65 b && ltb b 71) (b % 32 + 9) (cond (leb 97 b && ltb b 103) (b % 32 + 9) 16))
@@ -50,35 +48,5 @@ chosen : (b : ℕ) (t u v : Bool) (x y z : ℕ) → t ≡ (leb 97 b && ltb b 103
 unfolding picked
 chosen b t u v x y z t' x' u' y' v' z' = let e : z ≡ picked b = cc in e ∙ picked_is b
 
-cast-figure : tie.Need-overflow-cast-figure
-cast-figure c = search rules
-
-add-letter : tie.Need-overflow-add-letter
-add-letter c = search rules
-
-cast-letter : tie.Need-overflow-cast-letter
-cast-letter c = search rules
-
-is-between-requires : tie.Need-is-between-requires
-is-between-requires c κs = search rules
-
-pick-word-requires : tie.Need-pick-word-requires
-pick-word-requires c κs = search rules
-
-is-between-requires-2 : tie.Need-is-between-requires-2
-is-between-requires-2 c κs = search rules
-
-pick-word-requires-2 : tie.Need-pick-word-requires-2
-pick-word-requires-2 c κs = search rules
-
-is-between-requires-3 : tie.Need-is-between-requires-3
-is-between-requires-3 c κs = search rules
-
-pick-word-requires-3 : tie.Need-pick-word-requires-3
-pick-word-requires-3 c κs = search rules
-
-returns : tie.Need-returns
-returns c = chosen _ _ _ _ _ _ _ c.before.before.before.before.before.is-between.ensures c.before.before.before.before.pick_word.ensures c.before.before.before.is-between2.ensures c.before.before.pick-word2.ensures c.before.is-between3.ensures c.pick-word3.ensures
-
-pub digit-spec : {M : Type 1} → statement M
-digit-spec = tie.close (tie.spec cast-figure add-letter cast-letter is-between-requires pick-word-requires is-between-requires-2 pick-word-requires-2 is-between-requires-3 pick-word-requires-3 returns)
+pub returns : goal.returns
+returns c = chosen _ _ _ _ _ _ _ c.is_between.ensures c.pick_word-lower.ensures c.is_between-2.ensures c.pick_word-upper.ensures c.is_between-3.ensures c.pick_word.ensures
