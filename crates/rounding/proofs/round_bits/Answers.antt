@@ -1,0 +1,40 @@
+-- `rounding::round_bits` meets its contract. Assumes nothing.
+use mathlib.Core.Path.{◌≡◌, refl, sym, ap, ◌∙◌}
+use Prim.Native.Nat.{ℕ, ◌-◌, ◌/◌, ◌%◌, ◌^◌, ◌≤◌, ◌<◌}
+use borrow.Author.Rules.{rules}
+use native.Mathlib.Omega.{arith}
+use Rattle.wide.specs.Words.{sticky}
+use Rattle.wide.proofs.Sticky.{Jam, jam_of, jam_below, jam_ge}
+use Rattle.rounding.specs.Machine.{packed}
+use Rattle.rounding.proofs.Rounding.{bits_normal, bits_subnormal, bits_tiny, stands_half}
+use Rattle.rounding.proofs.round_bits.Goals as goal
+use Rattle.rounding.proofs.round_bits.Goals.{After-set_sticky-half}
+
+-- half of m has 63 digits
+
+halved : (m h : ℕ) → 2 ^ 63 ≤ m → m < 2 ^ 64 → h ≡ sticky (m / 2) (m % 2) → (0 < h) × (h < 2 ^ 63)
+halved m h lo hi e = let j : Jam m 2 h = jam_of (omega arith) e in (jam_ge 1 (omega arith) (omega arith) j, jam_below (2 ^ 63) refl (omega arith) j)
+
+pub returns-then-e-ge1252 : goal.returns-then-e-ge1252
+returns-then-e-ge1252 c =
+    λ num den h.
+    let a = c.args in
+    bits_normal a.dir a.neg h (omega arith) (omega arith) (omega arith) ∙ ap (packed a.dir a.neg) (sym c.normal_bits.ensures)
+
+pub returns-then-e-ge1199 : goal.returns-then-e-ge1199
+returns-then-e-ge1199 c =
+    λ num den h.
+    let t = (goal.at.returns-then-e-ge1199 c).After-set_sticky-half in
+    let a = t.args in
+    let half = halved a.m t.set_sticky-half.result (omega arith) (omega arith) t.set_sticky-half.ensures in
+    bits_subnormal a.dir a.neg (stands_half h t.set_sticky-half.ensures) (1262 - a.e) half.1 (omega arith) (omega arith)
+    ∙ ap (packed a.dir a.neg) (sym c.round_shift.ensures)
+
+pub returns-else-e-ge1199 : goal.returns-else-e-ge1199
+returns-else-e-ge1199 c =
+    λ num den h.
+    let t = (goal.at.returns-else-e-ge1199 c).After-set_sticky-half in
+    let a = t.args in
+    let half = halved a.m t.set_sticky-half.result (omega arith) (omega arith) t.set_sticky-half.ensures in
+    bits_tiny a.dir a.neg (stands_half h t.set_sticky-half.ensures) half.0 half.1 (omega arith)
+    ∙ ap (packed a.dir a.neg) (sym c.round_shift-else-e-ge1199.ensures)

@@ -1,0 +1,7 @@
+-- `rounding::round_pack` meets its contract. Assumes nothing.
+use mathlib.Core.Path.{sym, ◌∙◌}
+use borrow.Author.Rules.{rules}
+use Rattle.rounding.proofs.round_pack.Goals as goal
+
+pub returns : goal.returns
+returns c = λ num den h. c.pack.ensures ∙ sym (c.round_bits.ensures num den h)
