@@ -6,10 +6,8 @@ use native.Mathlib.Omega.{arith}
 use lib.Dec.{ltb}
 use Rattle.wide.proofs.Nat.{shl}
 use Rattle.screening.specs.Screening.{is_nan}
-use borrow.Author.Rules.{rules}
 use borrow.Author.Tests.{ltb-true, ltb-false, lt-ltb, le-ltb}
-use Rattle.screening.proofs.is_nan_at.Statement.{statement}
-use Rattle.screening.proofs.is_nan_at.Tie as tie
+use Rattle.screening.proofs.is_nan_at.Goals as goal
 
 shifted : (c x : ℕ) → ltb (c * 2) (x * 2 % 2 ^ 64) ≡ ltb c (x % 2 ^ 63)
 shifted c x = told (ltb c (x % 2 ^ 63)) refl where
@@ -17,11 +15,5 @@ shifted c x = told (ltb c (x % 2 ^ 63)) refl where
   told true h = lt-ltb (c * 2) (x * 2 % 2 ^ 64) (omega (arith, shl x 1 (omega arith), ltb-true c (x % 2 ^ 63) h))
   told false h = le-ltb (c * 2) (x * 2 % 2 ^ 64) (omega (arith, shl x 1 (omega arith), ltb-false c (x % 2 ^ 63) h))
 
-read-u64-requires : tie.Need-read-u64-requires
-read-u64-requires c κs = search rules
-
-returns : tie.Need-returns
+pub returns : goal.returns
 returns c = shifted 0x7ff0000000000000 c.read_u64.result ∙ ap is_nan c.read_u64.ensures
-
-pub is-nan-at-spec : {M : Type 1} → statement M
-is-nan-at-spec = tie.close (tie.spec read-u64-requires returns)
