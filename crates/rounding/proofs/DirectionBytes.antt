@@ -1,12 +1,11 @@
 -- The bytes that name no direction are those above 3, and each of the others names its own. Assumes nothing.
-use Prim.Native.Nat.{ℕ, suc, ◌<◌}
+use Prim.Native.Nat.{ℕ, ◌<◌}
 use mathlib.Core.Path.{◌≡◌, refl}
-use mathlib.Core.List.{List, [], ◌∷◌, map}
+use mathlib.Core.List.{[], ◌∷◌, map}
 use native.Mathlib.Omega.{arith}
 use borrow.Author.Tests.{ne_eqb}
 use Rattle.rounding.specs.Named.{direction_of}
 use Rattle.rounding.specs.declared.Direction.TheVariants.{Nearest, TowardZero, Up, Down}
-use Rattle.rounding.specs.declared.Named.{Named}
 use Rattle.rounding.specs.declared.Named.TheVariants.{Known, Unknown}
 
 pub above_three : (b : ℕ) → 3 < b → direction_of b ≡ Unknown

@@ -8,7 +8,7 @@ use native.Mathlib.Omega.{arith}
 use mathlib.Core.Bool.{Bool}
 use lib.Dec.{lit<, lit≤}
 use lib.Pow.{pow-add, pow_pos, pow_mono, shr_lt}
-use lib.Ieee.{Float, nan, inf, fin, Format, binary64, prec, low, size, units, to_bits}
+use lib.Ieee.{Float, nan, inf, fin, binary64, prec, low, size, units, to_bits}
 use lib.Ieee.Digits.{size-le}
 use lib.Ieee.Fits.{round_is}
 use Rattle.wide.specs.Words.{jammed}

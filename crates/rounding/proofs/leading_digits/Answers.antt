@@ -1,7 +1,6 @@
 -- `rounding::leading_digits` meets its contract. Assumes nothing.
 use Prim.Native.Nat.{◌^◌, ◌<◌}
 use lib.Count.{count_leading_zeros}
-use borrow.Author.Rules.{rules}
 use native.Mathlib.Omega.{arith}
 use Rattle.rounding.proofs.Leading.{Leads, leads, top_fits, top_jammed, top_low}
 use Rattle.rounding.proofs.leading_digits.Goals as goal

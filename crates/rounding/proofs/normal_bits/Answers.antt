@@ -1,7 +1,6 @@
 -- `rounding::normal_bits` meets its contract. Assumes nothing.
 use mathlib.Core.Path.{ap}
 use Prim.Native.Nat.{ℕ, ◌+◌, ◌-◌, ◌*◌, ◌^◌}
-use borrow.Author.Rules.{rules}
 use native.Mathlib.Omega.{arith}
 use Rattle.rounding.proofs.Place.{whole_next}
 use Rattle.rounding.proofs.normal_bits.Goals as goal

@@ -1,7 +1,6 @@
 -- `rounding::ones` meets its contract. Assumes nothing.
 use mathlib.Core.Path.{ap}
 use Prim.Native.Nat.{ℕ, ◌-◌}
-use borrow.Author.Rules.{rules}
 use native.Mathlib.Omega.{arith}
 use Rattle.rounding.proofs.Increment.{one_shl, one_shl-pos}
 use Rattle.rounding.proofs.ones.Goals as goal

@@ -2,7 +2,6 @@
 use mathlib.Core.Path.{ap, ap₂, ◌∙◌}
 use Prim.Native.Nat.{ℕ}
 use mathlib.Core.Bool.{Bool, cond}
-use borrow.Author.Rules.{rules}
 use Rattle.rounding.proofs.overflow_bits.Goals as goal
 use Rattle.rounding.proofs.overflow_bits.Goals.{After-to_nearest, After-pick_word-directed, After-rounds_away}
 

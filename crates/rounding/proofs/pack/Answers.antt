@@ -1,7 +1,6 @@
 -- `rounding::pack` meets its contract. Assumes nothing.
 use mathlib.Core.Path.{ap₂}
 use Prim.Native.Nat.{ℕ, ◌+◌}
-use borrow.Author.Rules.{rules}
 use native.Mathlib.Omega.{arith}
 use Rattle.rounding.proofs.Pattern.{sign_le, bounded_le}
 use Rattle.rounding.proofs.pack.Goals as goal

@@ -1,7 +1,6 @@
 -- `rounding::round_bits` meets its contract. Assumes nothing.
 use mathlib.Core.Path.{◌≡◌, refl, sym, ap, ◌∙◌}
 use Prim.Native.Nat.{ℕ, ◌-◌, ◌/◌, ◌%◌, ◌^◌, ◌≤◌, ◌<◌}
-use borrow.Author.Rules.{rules}
 use native.Mathlib.Omega.{arith}
 use Rattle.wide.specs.Words.{sticky}
 use Rattle.wide.proofs.Sticky.{Jam, jam_of, jam_below, jam_ge}

@@ -2,7 +2,6 @@
 use mathlib.Core.Path.{sym, ◌∙◌}
 use Prim.Native.Nat.{ℕ, ◌+◌, ◌-◌, ◌≤◌}
 use lib.Count.{count_leading_zeros}
-use borrow.Author.Rules.{rules}
 use native.Mathlib.Omega.{arith}
 use Rattle.rounding.specs.declared.Direction.TheVariants.{Nearest}
 use Rattle.rounding.proofs.Rounding.{bits_normal}

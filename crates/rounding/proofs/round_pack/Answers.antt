@@ -1,6 +1,5 @@
 -- `rounding::round_pack` meets its contract. Assumes nothing.
 use mathlib.Core.Path.{sym, ◌∙◌}
-use borrow.Author.Rules.{rules}
 use Rattle.rounding.proofs.round_pack.Goals as goal
 
 pub returns : goal.returns

@@ -1,7 +1,6 @@
 -- `rounding::rounds_away` meets its contract. Assumes nothing.
 use mathlib.Core.Path.{sym, ap, ◌∙◌}
 use mathlib.Core.Bool.{Bool}
-use borrow.Author.Rules.{rules}
 use Rattle.rounding.specs.Machine.{rounds_away}
 use Rattle.rounding.proofs.rounds_away.Goals as goal
 
