@@ -17,7 +17,7 @@ use Rattle.reply.specs.declared.Reply.TheVariants.{Refused, Bits}
 unfoldable pub reply_with : Bool → ℕ → ℕ → ℕ → ℕ → Reply
 reply_with s n den k q = cond (eqb (q * 2 ^ k * den) n && leb k 2045) (Bits (sign_bit s + (k * 0x10000000000000 + q))) (Refused 10)
 
--- ±num / den, for a den above 0. The divisions only find the leading 53 digits, q, and how many follow, k: nothing is rounded, since replyWith
+-- ±num / den, for a den above 0. The divisions only find the leading 53 digits, q, and how many follow, k: nothing is rounded, since reply_with
 -- asks that q * 2 ^ k is the size itself.
 unfoldable pub exactly : Bool → ℕ → ℕ → Reply
 unfolding size reply_with

@@ -18,7 +18,7 @@ use Rattle.partial_frame.proofs.Held.{empty_held}
 use Rattle.service.proofs.Simulation.{move_whole, move_on}
 use Rattle.demands.proofs.Simulation.{held_short}
 
--- what comes after the movedBy bytes is parted from where the book then stands
+-- what comes after the moved_by bytes is parted from where the book then stands
 abbrev after : Moved → List Item → Parts
 after m is = cond (whole m.held) (one_point (frame m.held) (parted_from [] is)) (parted_from m.held is)
 

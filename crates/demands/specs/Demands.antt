@@ -111,7 +111,7 @@ pub record Demand3 : Type 0 where
 abbrev pub Unreached : State → Type 0
 Unreached s = (b : Book) → whole b.held ≡ false → s ≢ state_of b
 
--- Demand 1 for every state, piece and buffer; refusal 6 is tried first in take_of and closeOf. A state's array has its length and its numbers
+-- Demand 1 for every state, piece and buffer; refusal 6 is tried first in take_of and close_of. A state's array has its length and its numbers
 -- have their bounds, as its type says.
 pub record Demand1 : Type 0 where
   -- 7 for a state that no run of bytes shorter than a whole frame leaves, and nothing is touched

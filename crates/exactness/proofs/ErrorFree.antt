@@ -65,7 +65,7 @@ module _ (p a b : ℕ) (P : 0 < p) (A : Representable p a) (B : Representable p 
       back : (h : ℕ) → h ≡ a - b → a - h ≡ b
       back h e = omega arith
 
-  -- b is negPart than half of a, and the last place of a is no unit: so half of a is a number that p digits write
+  -- b is neg_part than half of a, and the last place of a is no unit: so half of a is a number that p digits write
   half_part : (i : ℕ) → dropped p a ≡ suc i → b + b < a → Representable p (a - to_digits p (a - b))
   half_part i e l =
       let D : 2 ^ suc i ∣ a = subst (λ (x : ℕ). 2 ^ x ∣ a) e (rep_whole p a A) in

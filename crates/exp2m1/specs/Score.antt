@@ -29,7 +29,7 @@ rounded e r =
 unfoldable pub steps : List Entry → ℕ → Float → Float
 steps list ux x =
     let ax = ux % 2 ^ 63 in
-    -- 1. NaN: a NaN; floats have one, and scoreWith gives its bits
+    -- 1. NaN: a NaN; floats have one, and score_with gives its bits
     cond (ltb 0x7ff0000000000000 ax) (bits 0x7ff8000000000000)
     -- 2. x <= -54: -1
     (cond (leb 0xc04b000000000000 ux) (bits 0xbff0000000000000)

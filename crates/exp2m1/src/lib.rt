@@ -1,8 +1,8 @@
 // 2^x - 1 for a binary64 x: the module exp2m1.rs, with its names, order, operands and association, but for step 6, which is read from a
 // table (crates/exp2m1_whole).
 //
-// score promises, for every 64-bit pattern, the pattern that scoreBits of specs/Score.antt gives: document 01's steps 1 to 8 over IEEE
-// operations. score_found promises the same steps with a list of entries in step 5 that the caller has looked through (scoreWith). The
+// score promises, for every 64-bit pattern, the pattern that score_bits of specs/Score.antt gives: document 01's steps 1 to 8 over IEEE
+// operations. score_found promises the same steps with a list of entries in step 5 that the caller has looked through (score_with). The
 // phases promise the definitions of their names in specs/Phases.antt.
 #![tactic(auto)]
 

@@ -64,7 +64,7 @@ round_to_integral d nan = nan
 round_to_integral d (inf s) = inf s
 round_to_integral d (fin s m e) = round_to d binary64 s (whole d s (m * up e) (down e)) 1
 
--- ---- scaleB: x * 2 ^ n. A zero, and an infinity on overflow, have the sign of x.
+-- ---- scale_b: x * 2 ^ n. A zero, and an infinity on overflow, have the sign of x.
 
 unfoldable pub scale_b : Direction → Float → ℤ → Float
 unfolding round_to

@@ -82,7 +82,7 @@ module _ (a b : ℕ) (p : List ℕ) (l : length p ≡ longest_body) where
     four (ap (λ (m : ℕ). suc (suc m)) (sym (length_padded n p))) refl refl (full_body n (omega arith) (kept (a * 256 + b)) refl z),
   )
 
--- a isLeft state is that of the bytes that it stands for
+-- a is_left state is that of the bytes that it stands for
 pub reach_sound : (s : PartialFrame) → length s.body ≡ longest_body → is_left s ≡ true → (whole (bytes_in s) ≡ false) × (s ≡ frame_of (bytes_in s))
 unfolding is_left Sound
 reach_sound s l e =

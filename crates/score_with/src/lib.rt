@@ -1,6 +1,6 @@
 // The score with a lent list of exceptional cases (request A.4): document 01's steps with the list in place of the first table.
 //
-// score_with promises, for every list and 64-bit pattern, what scoredWith of specs/Score.antt gives: the list's refusal, or the score. The
+// score_with promises, for every list and 64-bit pattern, what scored_with of specs/Score.antt gives: the list's refusal, or the score. The
 // functions over the slice read its entries and hand them on; what is decided of an entry stands in exception_list.
 #![tactic(auto)]
 

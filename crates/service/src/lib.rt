@@ -1,7 +1,7 @@
 // The framed service: fresh, take and close.
 //
 // Each call goes through for every state, piece and buffer, and promises by an equation all that it returns and every byte of the
-// buffer after it: take_of and closeOf of specs/Service.antt, which go by document 01's plain book (specs/Book.antt).
+// buffer after it: take_of and close_of of specs/Service.antt, which go by document 01's plain book (specs/Book.antt).
 // The crate demands states demands 1 and 3 over whole lists of calls, and proves them.
 #![tactic(auto)]
 

@@ -33,7 +33,7 @@ pub record Tiny (ux : ℕ) : Type 0 where
   pub above : N < 2 ^ 104 * size_of ux
   pub upto : ux % 2 ^ 63 ≤ 0x3cc0527dbd87e24d
 
--- "for every weight" of these; scoreBits is what the contract of `score` gives as its reply
+-- "for every weight" of these; score_bits is what the contract of `score` gives as its reply
 abbrev pub TinyScores : Type 0
 TinyScores = (ux : ℕ) → ux < 2 ^ 64 → Tiny ux → Close (value_of ux) (score_bits ux)
 

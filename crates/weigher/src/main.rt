@@ -28,7 +28,7 @@ struct Served {
     written: bool,
 }
 
-// Hands a piece on to its end, and writes every answer. Its promise, Serves of specs/Serve.antt, is one step of outputOf of
+// Hands a piece on to its end, and writes every answer. Its promise, Serves of specs/Serve.antt, is one step of output_of of
 // crates/streams/specs/Streams.antt, which is shown to be the answers to the frames of all that was read.
 fn serve(state: State, piece: &[u8], space: &mut [u8]) -> Served
     requires { (is_good state ≡ true) × (answer_room ≤ length space.old) }
