@@ -9,7 +9,6 @@ use mathlib.Core.List.{List, [], ◌∷◌}
 use lib.Dec.{ltb}
 use lib.ListN.{length, get_or, drop, drop_of_length-le}
 use borrow.Author.Tests.{lt-ltb, le-ltb, ne_eqb, eq-eqb}
-use Rattle.vectors.specs.declared.Number.{Number}
 use Rattle.vectors.specs.declared.Number.TheVariants.{Value, Malformed}
 use Rattle.vectors.specs.Hexadecimal.{digit_of, read_from, number_of}
 

@@ -6,11 +6,11 @@
 #![tactic(auto)]
 
 ghost use Rattle.std.specs.Prelude.{◌≡◌, ◌≤◌, ◌<◌, length};
-ghost use Rattle.io.specs.Counts.{IsPrefixLen};
+ghost use Rattle.std.specs.Counts.{IsPrefixLen};
 ghost use Rattle.vectors.specs.Hexadecimal.{digit_of, number_of};
 ghost use Rattle.vectors.specs.Text.{Reached};
 
-use libc::{STDIN_FILENO, STDOUT_FILENO};
+use std::io::Read;
 
 #[derive(Clone, Copy)]
 pub enum Number {
@@ -47,15 +47,43 @@ pub fn space() -> [u8; 1048576]
     [0; 1048576]
 }
 
-// Reads standard input into the space, and answers how long the text is. One that may go on past the space is said to be too long.
-pub fn read_text(space: &mut [u8]) -> usize
+// Reads the input into the space, and answers how long the text is. One that may go on past the space is said to be too long.
+pub fn read_text<P: Print, R: Read>(rt: &P, input: &mut R, space: &mut [u8]) -> usize
     ensures { IsPrefixLen result space.new }
 {
-    let len = io::read_full(STDIN_FILENO, space);
+    let len = read_full(input, space);
     if len == space.len() {
-        io::write_all(STDOUT_FILENO, b"the text is too long\n");
+        let _ = println!(rt; "the text is too long");
     }
     len
+}
+
+// Reads until the space is full, the input ends or a read fails, and answers how many bytes came.
+fn read_full<R: Read>(input: &mut R, space: &mut [u8]) -> usize
+    ensures { IsPrefixLen result space.new }
+{
+    let mut len = 0;
+    while len < space.len() {
+        let Ok(got) = stdio::read_some(input, &mut space[len..]) else {
+            return len;
+        };
+        if got == 0 {
+            return len;
+        }
+        len += got;
+    }
+    len
+}
+
+// Where this byte comes first from a place on, or else the end of the text.
+fn find(text: &[u8], from: usize, byte: u8) -> usize
+    requires { from ≤ length text.now }
+    ensures { (from ≤ result) × (result ≤ length text.now) }
+{
+    match text[from..].iter().position(|b| *b == byte) {
+        Some(i) => from + i,
+        None => text.len(),
+    }
 }
 
 // Where the line that starts at `from` ends.
@@ -63,7 +91,7 @@ fn line_end(text: &[u8], from: usize) -> usize
     requires { from ≤ length text.now }
     ensures { (from ≤ result) × (result ≤ length text.now) }
 {
-    bytes::scan::find(text, from, text.len(), b'\n')
+    find(text, from, b'\n')
 }
 
 // The line that starts at `from`.
@@ -79,7 +107,7 @@ fn field_end(line: &[u8], from: usize) -> usize
     requires { from ≤ length line.now }
     ensures { (from ≤ result) × (result ≤ length line.now) }
 {
-    bytes::scan::find(line, from, line.len(), b' ')
+    find(line, from, b' ')
 }
 
 // The value of a hexadecimal digit, or 16.
@@ -163,15 +191,13 @@ fn read_numbers(line: &[u8], at: usize) -> Numbers
 }
 
 // Prints `line NUMBER: ` and the line.
-fn print_line(number: u64, line: &[u8]) {
-    io::write_all(STDOUT_FILENO, b"line ");
-    io::print_decimal(STDOUT_FILENO, number);
-    io::write_all(STDOUT_FILENO, b": ");
-    io::write_all(STDOUT_FILENO, line);
+fn print_line<P: Print>(rt: &P, number: u64, line: &[u8]) {
+    let _ = print!(rt; "line {number}: ");
+    let _ = rt.write_all(line);
 }
 
 // 1 where the answer is not the one wanted, and 0 where it is. A failure is printed with its line, in which the number wanted comes last.
-fn failures(answer: Answer, number: u64, line: &[u8]) -> u64
+fn failures<P: Print>(rt: &P, answer: Answer, number: u64, line: &[u8]) -> u64
     ensures { result ≤ 1 }
 {
     match answer {
@@ -179,15 +205,13 @@ fn failures(answer: Answer, number: u64, line: &[u8]) -> u64
             if got == want {
                 return 0;
             }
-            print_line(number, line);
-            io::write_all(STDOUT_FILENO, b", got ");
-            io::print_hex(STDOUT_FILENO, got, 16);
-            io::write_all(STDOUT_FILENO, b"\n");
+            print_line(rt, number, line);
+            let _ = println!(rt; ", got {got:016x}");
             1
         }
         Answer::Malformed => {
-            print_line(number, line);
-            io::write_all(STDOUT_FILENO, b", not a vector\n");
+            print_line(rt, number, line);
+            let _ = println!(rt; ", not a vector");
             1
         }
     }
@@ -205,14 +229,14 @@ pub fn start() -> Progress
 }
 
 // The progress past the next line, whose answer is given; a failure is printed.
-pub fn next(text: &[u8], progress: Progress, answer: Answer) -> Progress
+pub fn next<P: Print>(rt: &P, text: &[u8], progress: Progress, answer: Answer) -> Progress
     requires { Reached progress text.now × (progress.at < length text.now) }
     ensures { Reached result text.now × (progress.at < result.at) }
 {
     let at = progress.at;
     let end = line_end(text, at);
     let lines = progress.lines + 1;
-    let failures = progress.failures + failures(answer, lines, &text[at..end]);
+    let failures = progress.failures + failures(rt, answer, lines, &text[at..end]);
     if end == text.len() {
         return Progress {
             at: end,
@@ -228,9 +252,8 @@ pub fn next(text: &[u8], progress: Progress, answer: Answer) -> Progress
 }
 
 // Prints how many vectors there were and how many failed.
-pub fn print_count(progress: Progress) {
-    io::print_decimal(STDOUT_FILENO, progress.lines);
-    io::write_all(STDOUT_FILENO, b" vectors, ");
-    io::print_decimal(STDOUT_FILENO, progress.failures);
-    io::write_all(STDOUT_FILENO, b" failures\n");
+pub fn print_count<P: Print>(rt: &P, progress: Progress) {
+    let lines = progress.lines;
+    let failures = progress.failures;
+    let _ = println!(rt; "{lines} vectors, {failures} failures");
 }

@@ -2,11 +2,7 @@
 use mathlib.Core.Path.{sym}
 use Prim.Native.Nat.{ℕ}
 use lib.ListN.{length-replicate}
-use Rattle.vectors.proofs.space.Statement.{statement}
-use Rattle.vectors.proofs.space.Tie as tie
+use Rattle.vectors.proofs.space.Goals as goal
 
-returns : tie.Need-returns
+pub returns : goal.returns
 returns c = sym (length-replicate {0} {A = ℕ} 1048576 0)
-
-pub space-spec : {M : Type 1} → statement M
-space-spec = tie.close (tie.spec returns)
