@@ -11,6 +11,17 @@ ghost use Rattle.constant.specs.Machine.{Within, most_places};
 use constant::Reading;
 use reply::Reply;
 
+// Where the line that starts at `from` ends, or else the piece.
+fn line_end(piece: &[u8], from: usize) -> usize
+    requires { from ≤ length piece.now }
+    ensures { (from ≤ result) × (result ≤ length piece.now) }
+{
+    match piece[from..].iter().position(|b| *b == b'\n') {
+        Some(i) => from + i,
+        None => piece.len(),
+    }
+}
+
 fn glyph(digit: u64) -> u8
     requires { digit ≤ 15 }
 {
@@ -21,7 +32,18 @@ fn glyph(digit: u64) -> u8
     }
 }
 
-fn write_pattern(bits: u64) -> bool {
+// Writes a line; false where the output takes no more, of which standard error gets a line.
+fn write_line<P: Print + Eprint>(rt: &P, line: &[u8]) -> bool {
+    match stdio::write_out(rt, line) {
+        Ok(()) => true,
+        Err(error) => {
+            stdio::output_failed(rt, error);
+            false
+        }
+    }
+}
+
+fn write_pattern<P: Print + Eprint>(rt: &P, bits: u64) -> bool {
     let mut line = *b"0x................\n";
     let mut rest = bits;
     let mut i = 18;
@@ -30,28 +52,28 @@ fn write_pattern(bits: u64) -> bool {
         line[i] = glyph(rest % 16);
         rest = rest / 16;
     }
-    stdio::write_out(&line)
+    write_line(rt, &line)
 }
 
 // A refusal's number has two digits at most.
-fn write_refusal(number: u8) -> bool {
+fn write_refusal<P: Print + Eprint>(rt: &P, number: u8) -> bool {
     let mut line = *b"refused 00\n";
     let units = glyph((number % 10) as u64);
     if number < 10 {
         line[8] = units;
         line[9] = b'\n';
-        return stdio::write_out(&line[..10]);
+        return write_line(rt, &line[..10]);
     }
     line[8] = glyph((number / 10 % 10) as u64);
     line[9] = units;
-    stdio::write_out(&line)
+    write_line(rt, &line)
 }
 
-// Writes a line; false where the output takes no more.
-fn write_reply(reply: Reply) -> bool {
+// Writes a reply's line; false where the output takes no more.
+fn write_reply<P: Print + Eprint>(rt: &P, reply: Reply) -> bool {
     match reply {
-        Reply::Refused(number) => write_refusal(number),
-        Reply::Bits(bits) => write_pattern(bits),
+        Reply::Refused(number) => write_refusal(rt, number),
+        Reply::Bits(bits) => write_pattern(rt, bits),
     }
 }
 
@@ -64,7 +86,12 @@ struct Progress {
 }
 
 // Reads a piece of the input, and writes the replies to the lines that end in it.
-fn read_lines(reading: Reading, begun: bool, piece: &[u8]) -> Progress
+fn read_lines<P: Print + Eprint>(
+    rt: &P,
+    reading: Reading,
+    begun: bool,
+    piece: &[u8],
+) -> Progress
     requires { Within (most_places - length piece.now) reading }
     ensures { (n : ℕ) → Within n reading → Within (n + length piece.now) result.reading }
 {
@@ -72,7 +99,7 @@ fn read_lines(reading: Reading, begun: bool, piece: &[u8]) -> Progress
     let mut begun = begun;
     let mut at = 0;
     while at < piece.len() {
-        let end = bytes::scan::find(piece, at, piece.len(), b'\n');
+        let end = line_end(piece, at);
         reading = constant::read_on(reading, &piece[at..end]);
         if end == piece.len() {
             return Progress {
@@ -81,7 +108,7 @@ fn read_lines(reading: Reading, begun: bool, piece: &[u8]) -> Progress
                 open: true,
             };
         }
-        if !write_reply(constant::finish(reading)) {
+        if !write_reply(rt, constant::finish(reading)) {
             return Progress {
                 reading,
                 begun: true,
@@ -100,39 +127,39 @@ fn read_lines(reading: Reading, begun: bool, piece: &[u8]) -> Progress
 }
 
 // The end of the input: what has been read of a line is a line.
-fn finish(reading: Reading, begun: bool)
+fn finish<P: Print + Eprint>(rt: &P, reading: Reading, begun: bool)
     requires { Within most_places reading }
 {
     if begun {
-        if !write_reply(constant::finish(reading)) {
-            stdio::output_failed();
-        }
+        write_reply(rt, constant::finish(reading));
     }
 }
 
-fn main() {
-    let mut input = io::large_buffer();
+fn main(rt: HostRuntime) {
+    let mut input = rt.stdin();
+    let mut piece = [0u8; 65536];
     let mut reading = constant::fresh();
     let mut begun = false;
     // So many reads of 65,536 bytes are 2^63 bytes: more than come in a machine's life.
     let mut turns = 0x800000000000u64;
     while turns > 0 {
-        let got = stdio::read_some(&mut input);
-        if got == 0 {
-            finish(reading, begun);
-            return;
-        }
-        if got < 0 {
-            stdio::input_failed();
-            return;
-        }
-        let n = io::count(got, &input);
-        let progress = read_lines(reading, begun, &input[..n]);
-        reading = progress.reading;
-        begun = progress.begun;
-        if !progress.open {
-            stdio::output_failed();
-            return;
+        match stdio::read_some(&mut input, &mut piece) {
+            Ok(0) => {
+                finish(&rt, reading, begun);
+                return;
+            }
+            Ok(got) => {
+                let progress = read_lines(&rt, reading, begun, &piece[..got]);
+                reading = progress.reading;
+                begun = progress.begun;
+                if !progress.open {
+                    return;
+                }
+            }
+            Err(error) => {
+                stdio::input_failed(&rt, error);
+                return;
+            }
         }
         turns -= 1;
     }

@@ -98,17 +98,17 @@ fn compare(p: Pair, hi: u64, lo: u64) -> Answer {
     Answer::Found { got, want: hi }
 }
 
-fn run(text: &[u8]) {
+fn run<P: Print>(rt: &P, text: &[u8]) {
     let mut progress = vectors::start();
     while progress.at < text.len() {
         let answer = answer(vectors::line(text, progress.at));
-        progress = vectors::next(text, progress, answer);
+        progress = vectors::next(rt, text, progress, answer);
     }
-    vectors::print_count(progress);
+    vectors::print_count(rt, progress);
 }
 
-fn main() {
+fn main(rt: HostRuntime) {
     let mut space = vectors::space();
-    let len = vectors::read_text(&mut space);
-    run(&space[..len]);
+    let len = vectors::read_text(&rt, &mut rt.stdin(), &mut space);
+    run(&rt, &space[..len]);
 }

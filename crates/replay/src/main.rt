@@ -4,7 +4,6 @@
 
 ghost use Rattle.std.specs.Prelude.{◌≤◌, ◌<◌};
 
-use libc::STDOUT_FILENO;
 use service::State;
 
 // Document 01: "buffer 516 works, 515: 6".
@@ -31,14 +30,14 @@ fn next_size(size: usize) -> usize
 }
 
 // The end of the stream: an unfinished frame is refused.
-fn finish(state: State) {
+fn finish<P: Print>(rt: &P, state: State) {
     let mut answer = [0u8; BUFFER];
     let closed = service::close(state, &mut answer);
     let len = closed.len;
-    io::write_all(STDOUT_FILENO, &answer[..len]);
+    let _ = rt.write_all(&answer[..len]);
 }
 
-fn replay(stream: &[u8]) {
+fn replay<P: Print>(rt: &P, stream: &[u8]) {
     let mut answer = [0u8; BUFFER];
     let mut state = service::fresh();
     let mut at = 0;
@@ -47,16 +46,16 @@ fn replay(stream: &[u8]) {
         let end = piece_end(at, size, stream.len());
         let handed = delivery::hand_on(state, &stream[at..end], &mut answer);
         let len = handed.len;
-        io::write_all(STDOUT_FILENO, &answer[..len]);
+        let _ = rt.write_all(&answer[..len]);
         state = handed.state;
         at += handed.used;
         size = next_size(size);
     }
-    finish(state);
+    finish(rt, state);
 }
 
-fn main() {
+fn main(rt: HostRuntime) {
     let mut space = vectors::space();
-    let len = vectors::read_text(&mut space);
-    replay(&space[..len]);
+    let len = vectors::read_text(&rt, &mut rt.stdin(), &mut space);
+    replay(&rt, &space[..len]);
 }

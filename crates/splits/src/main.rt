@@ -6,10 +6,9 @@
 #![tactic(auto)]
 
 ghost use Rattle.std.specs.Prelude.{◌≤◌, ◌<◌, length};
-ghost use Rattle.io.specs.Counts.{IsPrefixLen};
+ghost use Rattle.std.specs.Counts.{IsPrefixLen};
 
 use delivery::HandedOn;
-use libc::STDOUT_FILENO;
 use memory::View;
 use service::{Closed, State, Taken};
 
@@ -412,10 +411,8 @@ fn near_the_end() -> State {
     State { frame, view }
 }
 
-fn print_number(before: &[u8], number: usize, after: &[u8]) {
-    io::write_all(STDOUT_FILENO, before);
-    io::print_decimal(STDOUT_FILENO, number as u64);
-    io::write_all(STDOUT_FILENO, after);
+fn print_number<P: Print>(rt: &P, before: &str, number: usize, after: &str) {
+    let _ = print!(rt; "{before}{number}{after}");
 }
 
 // Hands the whole stream on at once, and returns how long the answers are.
@@ -427,7 +424,14 @@ fn answer_whole(state: State, stream: &[u8], answers: &mut [u8]) -> usize
 }
 
 // How many of the runs from one number up to another fail that start from this state.
-fn count_failures(state: State, stream: &[u8], wanted: &[u8], first: usize, runs: usize) -> usize
+fn count_failures<P: Print>(
+    rt: &P,
+    state: State,
+    stream: &[u8],
+    wanted: &[u8],
+    first: usize,
+    runs: usize,
+) -> usize
     requires { (first ≤ runs) × (runs < 2147483647) }
     ensures { result ≤ runs }
 {
@@ -435,7 +439,7 @@ fn count_failures(state: State, stream: &[u8], wanted: &[u8], first: usize, runs
     let mut number = first;
     while number < runs {
         if !passes(state, stream, wanted, number) {
-            print_number(b"run ", number, b" fails\n");
+            print_number(rt, "run ", number, " fails\n");
             failures += 1;
         }
         number += 1;
@@ -444,28 +448,28 @@ fn count_failures(state: State, stream: &[u8], wanted: &[u8], first: usize, runs
 }
 
 // The same, where the wanted answers are those of the whole stream.
-fn count_from(state: State, stream: &[u8], first: usize, runs: usize) -> usize
+fn count_from<P: Print>(rt: &P, state: State, stream: &[u8], first: usize, runs: usize) -> usize
     requires { (first ≤ runs) × (runs < 2147483647) }
     ensures { result ≤ runs }
 {
     let mut space = vectors::space();
     let len = answer_whole(state, stream, &mut space);
-    count_failures(state, stream, &space[..len], first, runs)
+    count_failures(rt, state, stream, &space[..len], first, runs)
 }
 
-fn run_all(stream: &[u8])
+fn run_all<P: Print>(rt: &P, stream: &[u8])
     requires { length stream.now ≤ 1048576 }
 {
     let cuts = stream.len() + 1;
     let runs = cuts + RANDOM_RUNS;
-    let failures = count_from(service::fresh(), stream, 0, cuts);
-    let near = count_from(near_the_end(), stream, cuts, runs);
-    print_number(b"", runs, b" runs, ");
-    print_number(b"", failures + near, b" failures\n");
+    let failures = count_from(rt, service::fresh(), stream, 0, cuts);
+    let near = count_from(rt, near_the_end(), stream, cuts, runs);
+    print_number(rt, "", runs, " runs, ");
+    print_number(rt, "", failures + near, " failures\n");
 }
 
-fn main() {
+fn main(rt: HostRuntime) {
     let mut space = vectors::space();
-    let len = vectors::read_text(&mut space);
-    run_all(&space[..len]);
+    let len = vectors::read_text(&rt, &mut rt.stdin(), &mut space);
+    run_all(&rt, &space[..len]);
 }

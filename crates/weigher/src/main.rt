@@ -28,9 +28,20 @@ struct Served {
     written: bool,
 }
 
+// Writes answers. False where the output takes no more, of which standard error gets a line.
+fn write_answers<P: Print + Eprint>(rt: &P, answers: &[u8]) -> bool {
+    match stdio::write_out(rt, answers) {
+        Ok(()) => true,
+        Err(error) => {
+            stdio::output_failed(rt, error);
+            false
+        }
+    }
+}
+
 // Hands a piece on to its end, and writes every answer. Its promise, Serves of specs/Serve.antt, is one step of output_of of
 // crates/streams/specs/Streams.antt, which is shown to be the answers to the frames of all that was read.
-fn serve(state: State, piece: &[u8], space: &mut [u8]) -> Served
+fn serve<P: Print + Eprint>(rt: &P, state: State, piece: &[u8], space: &mut [u8]) -> Served
     requires { (is_good state ≡ true) × (answer_room ≤ length space.old) }
     ensures { Serves state piece.now space.old result space.new }
 {
@@ -40,7 +51,7 @@ fn serve(state: State, piece: &[u8], space: &mut [u8]) -> Served
         let handed = delivery::hand_on(state, &piece[at..], space);
         let len = handed.len;
         state = handed.state;
-        if !stdio::write_out(&space[..len]) {
+        if !write_answers(rt, &space[..len]) {
             return Served {
                 state,
                 written: false,
@@ -55,36 +66,36 @@ fn serve(state: State, piece: &[u8], space: &mut [u8]) -> Served
 }
 
 // The end of the input: an unfinished frame is refused.
-fn finish(state: State) {
+fn finish<P: Print + Eprint>(rt: &P, state: State) {
     let mut answer = [0u8; ANSWER_ROOM];
     let closed = service::close(state, &mut answer);
     let len = closed.len;
-    if !stdio::write_out(&answer[..len]) {
-        stdio::output_failed();
-    }
+    write_answers(rt, &answer[..len]);
 }
 
-fn main() {
-    let mut input = io::large_buffer();
+fn main(rt: HostRuntime) {
+    let mut input = rt.stdin();
+    let mut piece = [0u8; 65536];
     let mut space = answer_space();
     let mut state = service::fresh();
     let mut turns = u64::MAX;
     while turns > 0 {
-        let got = stdio::read_some(&mut input);
-        if got == 0 {
-            finish(state);
-            return;
-        }
-        if got < 0 {
-            stdio::input_failed();
-            return;
-        }
-        let n = io::count(got, &input);
-        let served = serve(state, &input[..n], &mut space);
-        state = served.state;
-        if !served.written {
-            stdio::output_failed();
-            return;
+        match stdio::read_some(&mut input, &mut piece) {
+            Ok(0) => {
+                finish(&rt, state);
+                return;
+            }
+            Ok(got) => {
+                let served = serve(&rt, state, &piece[..got], &mut space);
+                state = served.state;
+                if !served.written {
+                    return;
+                }
+            }
+            Err(error) => {
+                stdio::input_failed(&rt, error);
+                return;
+            }
         }
         turns -= 1;
     }
