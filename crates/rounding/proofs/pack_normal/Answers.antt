@@ -9,7 +9,7 @@ use Rattle.rounding.specs.Machine.{sign_bit, overflow_bits, packed, normal_bits}
 use Rattle.rounding.proofs.Place.{whole_next}
 use Rattle.rounding.proofs.Pattern.{sign_le}
 use Rattle.rounding.proofs.pack_normal.Goals as goal
-use Rattle.rounding.proofs.pack_normal.Goals.{After-normal_bits, After-sign_bit}
+use Rattle.rounding.proofs.pack_normal.Goals.{After-normal_bits}
 
 packed_small : (d : Direction) (s : Bool) (b : ℕ) → b < 0x7ff0000000000000 → packed d s b ≡ sign_bit s + b
 packed_small d s b h = ap (λ (t : Bool). sign_bit s + cond t b (overflow_bits d s)) (lt-ltb b 0x7ff0000000000000 h)
@@ -21,7 +21,7 @@ small_bits : (c : After-normal_bits) → let a = c.args in normal_bits a.dir a.n
 small_bits c = let s = c.before.before in let a = s.args in small a.e a.m _ s.requires.2 s.well_formed.1.1.0.1 (whole_next a.dir a.neg a.m (2 ^ 11) (omega arith))
 
 pub overflow_add-result : goal.overflow_add-result
-overflow_add-result c = let b = (goal.at.overflow_add-result c).After-sign_bit in omega (arith, subst (λ (x : ℕ). x < 0x7ff0000000000000) (sym c.normal_bits.ensures) (small_bits c), sign_le b.args.neg b.sign_bit.ensures)
+overflow_add-result c = omega (arith, subst (λ (x : ℕ). x < 0x7ff0000000000000) (sym c.normal_bits.ensures) (small_bits c), sign_le c.args.neg c.sign_bit.ensures)
 
 pub returns : goal.returns
 returns c =

@@ -7,7 +7,6 @@ use Rattle.wide.proofs.Sticky.{Jam, jam_of, jam_below, jam_ge}
 use Rattle.rounding.specs.Machine.{packed}
 use Rattle.rounding.proofs.Rounding.{bits_normal, bits_subnormal, bits_tiny, stands_half}
 use Rattle.rounding.proofs.round_bits.Goals as goal
-use Rattle.rounding.proofs.round_bits.Goals.{After-set_sticky-half}
 
 -- half of m has 63 digits
 
@@ -23,17 +22,15 @@ returns-then-e-ge1252 c =
 pub returns-then-e-ge1199 : goal.returns-then-e-ge1199
 returns-then-e-ge1199 c =
     λ num den h.
-    let t = (goal.at.returns-then-e-ge1199 c).After-set_sticky-half in
-    let a = t.args in
-    let half = halved a.m t.set_sticky-half.result (omega arith) (omega arith) t.set_sticky-half.ensures in
-    bits_subnormal a.dir a.neg (stands_half h t.set_sticky-half.ensures) (1262 - a.e) half.1 (omega arith) (omega arith)
+    let a = c.args in
+    let half = halved a.m c.set_sticky-half.result (omega arith) (omega arith) c.set_sticky-half.ensures in
+    bits_subnormal a.dir a.neg (stands_half h c.set_sticky-half.ensures) (1262 - a.e) half.1 (omega arith) (omega arith)
     ∙ ap (packed a.dir a.neg) (sym c.round_shift.ensures)
 
 pub returns-else-e-ge1199 : goal.returns-else-e-ge1199
 returns-else-e-ge1199 c =
     λ num den h.
-    let t = (goal.at.returns-else-e-ge1199 c).After-set_sticky-half in
-    let a = t.args in
-    let half = halved a.m t.set_sticky-half.result (omega arith) (omega arith) t.set_sticky-half.ensures in
-    bits_tiny a.dir a.neg (stands_half h t.set_sticky-half.ensures) half.0 half.1 (omega arith)
+    let a = c.args in
+    let half = halved a.m c.set_sticky-half.result (omega arith) (omega arith) c.set_sticky-half.ensures in
+    bits_tiny a.dir a.neg (stands_half h c.set_sticky-half.ensures) half.0 half.1 (omega arith)
     ∙ ap (packed a.dir a.neg) (sym c.round_shift-else-e-ge1199.ensures)

@@ -7,7 +7,7 @@ use Rattle.rounding.specs.declared.Direction.TheVariants.{Nearest}
 use Rattle.rounding.proofs.Rounding.{bits_normal}
 use Rattle.rounding.proofs.Leading.{Leads, leads, stands_top}
 use Rattle.rounding.proofs.round_nearest.Goals as goal
-use Rattle.rounding.proofs.round_nearest.Goals.{Start, After-leading_digits}
+use Rattle.rounding.proofs.round_nearest.Goals.{Start}
 
 high_word : (s : Start) → Leads s.args.w.hi (count_leading_zeros 64 s.args.w.hi)
 high_word s = leads s.args.w.hi s.requires.0 s.well_formed.1.0.1.1.0.1
@@ -30,8 +30,7 @@ pack_normal-requires c =
 pub returns : goal.returns
 returns c =
     λ num den h x.
-    let d = (goal.at.returns c).After-leading_digits in
     let s = (goal.at.returns c).Start in
     let a = s.args in
-    let m = d.leading_digits in
+    let m = c.leading_digits in
     c.pack_normal.ensures ∙ sym (bits_normal Nearest a.neg (stands_top m.result (count_leading_zeros 64 a.w.hi) (high_word s).few h m.ensures.1) m.ensures.0 m.type_inv (bounds a.e (count_leading_zeros 64 a.w.hi) (high_word s).few s.requires.1 s.requires.2).0)

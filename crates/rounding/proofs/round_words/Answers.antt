@@ -7,7 +7,7 @@ use native.Mathlib.Omega.{arith}
 use Rattle.rounding.specs.Machine.{Stands}
 use Rattle.rounding.proofs.Leading.{Leads, leads, stands_top, stands_word}
 use Rattle.rounding.proofs.round_words.Goals as goal
-use Rattle.rounding.proofs.round_words.Goals.{Start, Then-hi-eq0, Else-hi-eq0, After-leading_digits}
+use Rattle.rounding.proofs.round_words.Goals.{Start, Then-hi-eq0, Else-hi-eq0}
 
 low_lt : (s : Start) → s.args.lo < 2 ^ 64
 low_lt s = s.well_formed.1.1.1.0.1
@@ -51,7 +51,7 @@ pub overflow_sub-e-else-hi-eq0 : goal.overflow_sub-e-else-hi-eq0
 overflow_sub-e-else-hi-eq0 c = omega (arith, high_word (goal.at.overflow_sub-e-else-hi-eq0 c).Else-hi-eq0)
 
 pub round_pack-requires-else-hi-eq0 : goal.round_pack-requires-else-hi-eq0
-round_pack-requires-else-hi-eq0 c = let s = (goal.at.round_pack-requires-else-hi-eq0 c).Start in (c.leading_digits.ensures.0, bound s.args.e 128 (count_leading_zeros 64 s.args.hi) s.requires.1 (omega arith))
+round_pack-requires-else-hi-eq0 c = (c.leading_digits.ensures.0, bound c.args.e 128 (count_leading_zeros 64 c.args.hi) c.requires.1 (omega arith))
 
 pub returns-then-hi-eq0 : goal.returns-then-hi-eq0
 returns-then-hi-eq0 c =
@@ -69,7 +69,5 @@ returns-then-hi-eq0 c =
 pub returns-else-hi-eq0 : goal.returns-else-hi-eq0
 returns-else-hi-eq0 c =
     λ num den h x.
-    let k = (goal.at.returns-else-hi-eq0 c).After-leading_digits in
     let t = (goal.at.returns-else-hi-eq0 c).Else-hi-eq0 in
-    let s = (goal.at.returns-else-hi-eq0 c).Start in
-    c.round_pack-else-hi-eq0.ensures num den (stands_top k.leading_digits.result (count_leading_zeros 64 s.args.hi) (high_word t).few h k.leading_digits.ensures.1)
+    c.round_pack-else-hi-eq0.ensures num den (stands_top c.leading_digits.result (count_leading_zeros 64 c.args.hi) (high_word t).few h c.leading_digits.ensures.1)

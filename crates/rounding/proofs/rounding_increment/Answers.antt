@@ -7,7 +7,6 @@ use lib.Pow.{pow_pos, pow_mono}
 use native.Mathlib.Omega.{arith}
 use Rattle.rounding.specs.Machine.{to_nearest}
 use Rattle.rounding.proofs.rounding_increment.Goals as goal
-use Rattle.rounding.proofs.rounding_increment.Goals.{After-to_nearest, After-pick_word-directed, After-ones-2, After-rounds_away, After-ones}
 
 below : (k : ℕ) → 2 ^ (k - 1) - 1 < 2 ^ (k - 1)
 below k = go (2 ^ (k - 1)) (pow_pos (k - 1))
@@ -25,12 +24,7 @@ overflow_add-nearest c =
 
 pub returns : goal.returns
 returns c =
-    let t = (goal.at.returns c).After-to_nearest in
-    let p = (goal.at.returns c).After-pick_word-directed in
-    let o = (goal.at.returns c).After-ones-2 in
-    let w = (goal.at.returns c).After-rounds_away in
-    let n = (goal.at.returns c).After-ones in
-    let a = n.args in
+    let a = c.args in
     c.pick_word.ensures
-    ∙ ap₂ (λ (b : Bool) (x : ℕ). cond b x p.pick_word-directed.result) t.to_nearest.ensures (ap (λ (x : ℕ). x + a.odd) n.ones.ensures)
-    ∙ ap (λ (x : ℕ). cond (to_nearest a.dir) (2 ^ (a.k - 1) - 1 + a.odd) x) (p.pick_word-directed.ensures ∙ ap₂ (λ (b : Bool) (x : ℕ). cond b x 0) w.rounds_away.ensures o.ones-2.ensures)
+    ∙ ap₂ (λ (b : Bool) (x : ℕ). cond b x c.pick_word-directed.result) c.to_nearest.ensures (ap (λ (x : ℕ). x + a.odd) c.ones.ensures)
+    ∙ ap (λ (x : ℕ). cond (to_nearest a.dir) (2 ^ (a.k - 1) - 1 + a.odd) x) (c.pick_word-directed.ensures ∙ ap₂ (λ (b : Bool) (x : ℕ). cond b x 0) c.rounds_away.ensures c.ones-2.ensures)
