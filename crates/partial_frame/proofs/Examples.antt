@@ -2,9 +2,9 @@
 use Prim.Native.Nat.{ℕ}
 use mathlib.Core.Path.{◌≡◌, refl}
 use mathlib.Core.List.{List, [], ◌∷◌, ◌++◌}
-use mathlib.Core.Bool.{Bool, true, false}
+use mathlib.Core.Bool.{true, false}
 use lib.ListN.{replicate}
-use Rattle.partial_frame.specs.State.{padded, kept_bytes, places_of, frame_of, empty_frame, is_left}
+use Rattle.partial_frame.specs.State.{kept_bytes, places_of, frame_of, empty_frame, is_left}
 use Rattle.partial_frame.specs.declared.PartialFrame.{PartialFrame}
 use Rattle.frames.specs.Frame.{kept}
 
