@@ -56,6 +56,12 @@ fused f (fin s m e) (fin t n d) (inf u) = nan
 
 pub fused_nearest : (x y z : Float) → T (finite x) → T (finite y) → T (finite z) → fused_multiply_add Nearest x y z ≡ fused binary64 x y z
 unfolding fused_multiply_add plus
+fused_nearest nan y z X Y Z = elim X [ ]
+fused_nearest (inf _) y z X Y Z = elim X [ ]
+fused_nearest (fin s m e) nan z X Y Z = elim Y [ ]
+fused_nearest (fin s m e) (inf _) z X Y Z = elim Y [ ]
+fused_nearest (fin s m e) (fin t n d) nan X Y Z = elim Z [ ]
+fused_nearest (fin s m e) (fin t n d) (inf _) X Y Z = elim Z [ ]
 fused_nearest (fin s m e) (fin t n d) (fin u p g) X Y Z =
     sum_nearest (unlike s t) (m * up e * (n * up d) * down g) u (p * up g * (down e * down d)) (down e * down d * down g)
     (mul-pos (mul-pos (down_pos e) (down_pos d)) (down_pos g))

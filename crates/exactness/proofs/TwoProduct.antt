@@ -10,7 +10,7 @@ use mathlib.Core.Bool.{Bool, false, not}
 use lib.IntN.{ℤ, pos, ◌+ℤ◌, ◌*ℤ◌}
 use lib.Dec.{T}
 use lib.Pow.{pow-add, pow_pos, pow_mono}
-use lib.Ieee.{Float, fin, Format, prec, low, emax, up, down, unlike, mul, neg, sum, round, fits}
+use lib.Ieee.{Float, fin, Format, prec, low, emax, up, down, unlike, mul, neg, sum, round, fits, nan, inf}
 use lib.Ieee.Fits.{two, two-le_pos, down_pos}
 use lib.Ieee.Exact.{HasValue}
 use lib.Ieee.Scale.{round_same, finite, overflow}
@@ -75,6 +75,10 @@ cross X Y L a b c de dd P x y e =
 pub mul_is : (f : Format) (x y : Float) (s : Bool) (a : ℕ) (t : Bool) (b c : ℕ) → HasValue x s a (2 ^ low f) → HasValue y t b (2 ^ low f) → a * b ≡ c * 2 ^ low f
     → mul f x y ≡ round f (unlike s t) c (2 ^ low f)
 unfolding mul
+mul_is f nan y s a t b c v w h = elim v [ ]
+mul_is f (inf _) y s a t b c v w h = elim v [ ]
+mul_is f (fin s' m e) nan s a t b c v w h = elim w [ ]
+mul_is f (fin s' m e) (inf _) s a t b c v w h = elim w [ ]
 mul_is f (fin s' m e) (fin t' n d) s a t b c v w h =
     let L = 2 ^ low f in
     ap (λ (z : Bool). round f (unlike z t') (m * up e * (n * up d)) (down e * down d)) v.0
@@ -85,6 +89,12 @@ mul_is f (fin s' m e) (fin t' n d) s a t b c v w h =
 pub fused_is : (f : Format) (x y z : Float) (s : Bool) (a : ℕ) (t : Bool) (b : ℕ) (u : Bool) (k c : ℕ)
     → HasValue x s a (2 ^ low f) → HasValue y t b (2 ^ low f) → HasValue z u k (2 ^ low f) → a * b ≡ c * 2 ^ low f
     → fused f x y z ≡ sum f (unlike s t) c u k (2 ^ low f)
+fused_is f nan y z s a t b u k c v w r h = elim v [ ]
+fused_is f (inf _) y z s a t b u k c v w r h = elim v [ ]
+fused_is f (fin s' m e) nan z s a t b u k c v w r h = elim w [ ]
+fused_is f (fin s' m e) (inf _) z s a t b u k c v w r h = elim w [ ]
+fused_is f (fin s' m e) (fin t' n d) nan s a t b u k c v w r h = elim r [ ]
+fused_is f (fin s' m e) (fin t' n d) (inf _) s a t b u k c v w r h = elim r [ ]
 fused_is f (fin s' m e) (fin t' n d) (fin u' p g) s a t b u k c v w r h =
     let L = 2 ^ low f in
     let A = m * up e * (n * up d) in

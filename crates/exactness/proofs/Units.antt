@@ -111,6 +111,10 @@ sum_is f s a t b c z =
 -- ---- the sum of two values
 pub add_is : (f : Format) (x y : Float) (s : Bool) (a : ℕ) (t : Bool) (b : ℕ) → HasValue x s a (2 ^ low f) → HasValue y t b (2 ^ low f) → add f x y ≡ sum f s a t b (2 ^ low f)
 unfolding add
+add_is f nan y s a t b p q = elim p [ ]
+add_is f (inf _) y s a t b p q = elim p [ ]
+add_is f (fin s' m e) nan s a t b p q = elim q [ ]
+add_is f (fin s' m e) (inf _) s a t b p q = elim q [ ]
 add_is f (fin s' m e) (fin t' n d) s a t b p q =
     let L = 2 ^ low f in
     ap (λ (z : Bool). sum f z (m * up e * down d) t' (n * up d * down e) (down e * down d)) p.0
@@ -121,10 +125,14 @@ add_is f (fin s' m e) (fin t' n d) s a t b p q =
 
 pub neg_is : (x : Float) (s : Bool) (a c : ℕ) → HasValue x s a c → HasValue (neg x) (not s) a c
 unfolding neg
+neg_is nan s a c v = elim v [ ]
+neg_is (inf _) s a c v = elim v [ ]
 neg_is (fin t m e) s a c v = (ap not v.0, v.1)
 
 pub neg_finite : (x : Float) → T (finite x) → T (finite (neg x))
 unfolding neg
+neg_finite nan t = elim t [ ]
+neg_finite (inf _) t = elim t [ ]
 neg_finite (fin s m e) t = t
 
 -- ---- a value by its whole number
@@ -174,6 +182,8 @@ units_of f m (negsuc k) a b c =
 
 -- a value's whole number is found by the fact that it is one
 pub magnitude_is : (f : Format) (x : Float) (s : Bool) (n : ℕ) → HasValue x s n (2 ^ low f) → magnitude f x ≡ n
+magnitude_is f nan s n v = elim v [ ]
+magnitude_is f (inf _) s n v = elim v [ ]
 magnitude_is f (fin t m e) s n v = div-eq_of_eq-mul_left (down_pos e) v.1
 
 from_units : (f : Format) (s : Bool) (m : ℕ) (e : ℤ) → Units f m e → InUnits f (fin s m e)
@@ -207,9 +217,13 @@ in_units_lem f (fin s (suc m) e) t r =
     (ltb→lt (suc m * up e) (2 ^ suc (emax f) * down e) (and_r (a && b && c) d t)))
 
 pub value_is : (f : Format) (x : Float) (s : Bool) (n : ℕ) → HasValue x s n (2 ^ low f) → value f x ≡ signed s n
+value_is f nan s n v = elim v [ ]
+value_is f (inf _) s n v = elim v [ ]
 value_is f (fin t m e) s n v = ap (λ (z : Bool). signed z (magnitude f (fin t m e))) v.0 ∙ ap (λ (z : ℕ). signed s z) (magnitude_is f (fin t m e) s n v)
 
 pub has_finite : (x : Float) (s : Bool) (n c : ℕ) → HasValue x s n c → T (finite x)
+has_finite nan s n c v = elim v [ ]
+has_finite (inf _) s n c v = elim v [ ]
 has_finite (fin t m e) s n c v = tt
 
 pub values_sum : (f : Format) (x y : Float) (s : Bool) (a : ℕ) (t : Bool) (b : ℕ) → HasValue x s a (2 ^ low f) → HasValue y t b (2 ^ low f) → value f x +ℤ value f y ≡ signed s a +ℤ signed t b
