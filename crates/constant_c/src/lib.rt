@@ -4,12 +4,13 @@
 
 ghost use Rattle.std.specs.Prelude.{◌≡◌};
 ghost use Rattle.constant.specs.Constant.{constant_of};
-ghost use Rattle.reply.specs.Told.{number, result};
+ghost use Rattle.reply.specs.Told.{number, content};
 
 // Reads a constant's text. Where it is refused, the result keeps its content.
 #[unsafe(no_mangle)]
 pub extern "C" fn weigher_constant(text: &[u8], out: &mut u64) -> u8
-    ensures* { λ r. ⌜ (r ≡ number (constant_of text.now)) × (out.new ≡ result (constant_of text.now) out.old) ⌝ }
+    ensures number { result ≡ number (constant_of text.now) }
+    ensures content { out.new ≡ content (constant_of text.now) out.old }
 {
     reply::tell(constant::constant(text), out)
 }

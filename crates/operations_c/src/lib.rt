@@ -6,13 +6,13 @@
 ghost use Rattle.std.specs.Prelude.{◌≡◌};
 ghost use Rattle.rounding.specs.declared.Direction.TheVariants.{Nearest};
 ghost use Rattle.ieee754.specs.Operations.{fused_bits, round_bits, floor_bits, scale_bits};
-ghost use Rattle.reply.specs.Told.{number, result};
+ghost use Rattle.reply.specs.Told.{number, content};
 ghost use Rattle.multiply_add.specs.Fused.{fused_reply};
 
 // a × b + c, rounded once to nearest.
 #[unsafe(no_mangle)]
 pub extern "C" fn weigher_fused(a: u64, b: u64, c: u64) -> u64
-    ensures* { λ r. ⌜ r ≡ fused_bits Nearest a b c ⌝ }
+    ensures { result ≡ fused_bits Nearest a b c }
 {
     multiply_add::fused_nearest(a, b, c)
 }
@@ -20,7 +20,8 @@ pub extern "C" fn weigher_fused(a: u64, b: u64, c: u64) -> u64
 // The same in the direction that the byte names. Where it names none, the result keeps its content.
 #[unsafe(no_mangle)]
 pub extern "C" fn weigher_fused_in(direction: u8, a: u64, b: u64, c: u64, out: &mut u64) -> u8
-    ensures* { λ r. ⌜ (r ≡ number (fused_reply direction a b c)) × (out.new ≡ result (fused_reply direction a b c) out.old) ⌝ }
+    ensures number { result ≡ number (fused_reply direction a b c) }
+    ensures content { out.new ≡ content (fused_reply direction a b c) out.old }
 {
     reply::tell(multiply_add::fused(direction, a, b, c), out)
 }
@@ -28,7 +29,7 @@ pub extern "C" fn weigher_fused_in(direction: u8, a: u64, b: u64, c: u64, out: &
 // The nearest whole number, a tie to the even one.
 #[unsafe(no_mangle)]
 pub extern "C" fn weigher_round(x: u64) -> u64
-    ensures* { λ r. ⌜ r ≡ round_bits x ⌝ }
+    ensures { result ≡ round_bits x }
 {
     integral::round(x)
 }
@@ -36,7 +37,7 @@ pub extern "C" fn weigher_round(x: u64) -> u64
 // The greatest whole number not above x.
 #[unsafe(no_mangle)]
 pub extern "C" fn weigher_floor(x: u64) -> u64
-    ensures* { λ r. ⌜ r ≡ floor_bits x ⌝ }
+    ensures { result ≡ floor_bits x }
 {
     integral::floor(x)
 }
@@ -44,7 +45,7 @@ pub extern "C" fn weigher_floor(x: u64) -> u64
 // x × 2^n, rounded once.
 #[unsafe(no_mangle)]
 pub extern "C" fn weigher_scale(x: u64, n: i32) -> u64
-    ensures* { λ r. ⌜ r ≡ scale_bits x n ⌝ }
+    ensures { result ≡ scale_bits x n }
 {
     scaling::scale(x, n)
 }
