@@ -8,7 +8,7 @@ use native.Mathlib.Omega.{arith}
 use mathlib.Core.Bool.{Bool, not}
 use lib.Dec.{T}
 use borrow.Author.Tests.{le-leb, lt-leb, le-ltb}
-use lib.Ieee.{Float, fin, binary64, mul, neg, is_nan, nan_bits, of_bits}
+use lib.Ieee.{Float, fin, binary64, mul, neg, is_nan, nan_bits, of_bits, nan, inf}
 use lib.Ieee.Exact.{HasValue}
 use lib.Ieee.Bits.{nan_bits_above}
 use lib.Ieee.Scale.{finite}
@@ -88,6 +88,8 @@ high_number b h = subst (λ (t : Bool). T (not t)) (sym (nan_bits_above binary64
 
 number : (x : Float) → T (finite x) → T (not (is_nan x))
 unfolding is_nan
+number nan t = elim t [ ]
+number (inf _) t = elim t [ ]
 number (fin s m e) t = tt
 
 -- ---- the theorem
