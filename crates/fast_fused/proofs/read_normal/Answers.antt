@@ -5,8 +5,7 @@ use native.Mathlib.Omega.{arith}
 use Rattle.operands.proofs.Reading.{reads_mid}
 use Rattle.operands.specs.Machine.{field_of}
 use borrow.Author.Rules.{rules}
-use Rattle.fast_fused.proofs.read_normal.Statement.{statement}
-use Rattle.fast_fused.proofs.read_normal.Tie as tie
+use Rattle.fast_fused.proofs.read_normal.Goals as goal
 
 one_more : (x : ℕ) → 1 ≤ x → x ≡ suc (x - 1)
 one_more x h = omega arith
@@ -17,17 +16,8 @@ exponent x h = omega arith
 finite : (x : ℕ) → x / 0x10000000000000 < 2047 → x < 0x7ff0000000000000
 finite x h = omega arith
 
-add-t3 : tie.Need-overflow-add-t3
-add-t3 c = search rules
-
-add-t6 : tie.Need-overflow-add-t6
-add-t6 c = search rules
-
-returns : tie.Need-returns
+pub returns : goal.returns
 returns c =
     let b = c.args.b in
     let x = field_of b in
     (reads_mid b (x - 1) _ (one_more x c.requires.0) (finite (b % 0x8000000000000000) c.requires.1) refl (exponent x c.requires.0), refl)
-
-pub read-normal-spec : {M : Type 1} → statement M
-read-normal-spec = tie.close (tie.spec add-t3 add-t6 returns)

@@ -1,0 +1,33 @@
+-- `fast_fused::round_exact` meets its contract. Assumes nothing.
+use mathlib.Core.Path.{◌≡◌, refl, sym, ap, ◌∙◌, subst}
+use Prim.Native.Nat.{ℕ, ◌+◌, ◌*◌, ◌^◌, ◌<◌}
+use native.Mathlib.Nat.{lt_of_lt_of_le, zero-add}
+use lib.Dec.{lit≤}
+use borrow.Author.Rules.{rules}
+use native.Mathlib.Omega.{arith}
+use Rattle.wide.specs.Words.{value}
+use Rattle.rounding.specs.declared.Direction.TheVariants.{Nearest}
+use Rattle.rounding.specs.Machine.{Rounds}
+use Rattle.fast_fused.proofs.round_exact.Goals as goal
+
+nothing : (h l : ℕ) → h ≡ 0 → l ≡ 0 → 0 < h * 2 ^ 64 + l → ⊥
+nothing h l e f g = omega arith
+
+-- a high word that is not zero
+
+high : (h l : ℕ) → (h ≡ 0 → ⊥) → h * 2 ^ 64 + l ≡ 0 → ⊥
+high h l n e = omega arith
+
+pub returns-then-lo-eq0 : goal.returns-then-lo-eq0
+returns-then-lo-eq0 c =
+    let w = c.args.w in
+    (λ e. refl, λ h. absurd (nothing w.hi w.lo c.if-hi-eq0.true c.if-lo-eq0.true h))
+
+pub returns-else-lo-eq0 : goal.returns-else-lo-eq0
+returns-else-lo-eq0 c =
+    let a = c.args in
+    let e : a.w.lo ≡ value a.w = sym (ap (λ (x : ℕ). x * 2 ^ 64 + a.w.lo) c.if-hi-eq0.true ∙ zero-add a.w.lo) in
+    (λ z. absurd (c.if-lo-eq0.false (e ∙ z)), λ h. subst (λ (n : ℕ). Rounds Nearest a.neg n a.e c.round_word.result) e (λ num den g x. c.round_word.ensures num den g (λ l. x (lt_of_lt_of_le l (lit≤ tt)))))
+
+pub returns-else-hi-eq0 : goal.returns-else-hi-eq0
+returns-else-hi-eq0 c = let w = c.args.w in (λ e. absurd (high w.hi w.lo c.if-hi-eq0.false e), λ h. c.round_normal.ensures)
