@@ -7,7 +7,7 @@ use native.Mathlib.Nat.{eq-or-lt_of_le, le_of_suc-le-suc, eq_of_mul-eq-mul_right
 use native.Mathlib.Omega.{arith}
 use lib.Dec.{T, eqb→eq, ltb, lit<}
 use lib.IntN.{ℤ, pos, negsuc, nat_abs, ◌*ℤ◌}
-use lib.Ieee.{Float, fin, unlike, binary64, hid, top, size, fits, of_bits, to_bits}
+use lib.Ieee.{Float, fin, unlike, binary64, hid, top, size, fits, of_bits, to_bits, nan, inf}
 use lib.Ieee.Bits.{of_bits-to_bits}
 use lib.Ieee.Fits.{and_l, and_r}
 use lib.Ieee.Scale.{finite}
@@ -56,6 +56,8 @@ pattern s n = let k = size n - 53 in cond s (top binary64) 0 + k * hid binary64 
 
 pattern_is : (x : Float) → T (finite x) → to_bits binary64 x ≡ pattern (sign x) (magnitude binary64 x)
 unfolding to_bits pattern
+pattern_is nan t = elim t [ ]
+pattern_is (inf _) t = elim t [ ]
 pattern_is (fin s m e) t = refl
 
 size_of : (s : Bool) (n : ℕ) → nat_abs (signed s n) ≡ n
