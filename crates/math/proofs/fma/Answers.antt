@@ -1,0 +1,6 @@
+-- `math::fma` meets its contract. Assumes nothing.
+use borrow.Author.Rules.{rules}
+use Rattle.math.proofs.fma.Goals as goal
+
+pub returns : goal.returns
+returns c = cc
