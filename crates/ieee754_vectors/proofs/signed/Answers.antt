@@ -7,9 +7,7 @@ use lib.IntN.{ℤ, negsuc, pos, ◌-ℤ◌}
 use mir.Syntax.{w32}
 use mir.Val.{SFits, to_z, of_z}
 use mir.ValLaws.{to_z_pos}
-use borrow.Author.Rules.{rules}
-use Rattle.ieee754_vectors.proofs.signed.Statement.{statement}
-use Rattle.ieee754_vectors.proofs.signed.Tie as tie
+use Rattle.ieee754_vectors.proofs.signed.Goals as goal
 
 less_pos : (k : ℕ) → negsuc 0 -ℤ pos k ≡ negsuc k
 less_pos zero = refl
@@ -24,24 +22,8 @@ difference_fits k h = subst (SFits w32) (sym (difference k h)) (record { sfits =
 bits : (n : ℕ) → 2147483648 ≤ n → n < 4294967296 → of_z w32 (negsuc 0 -ℤ to_z w32 (4294967295 - n)) ≡ n
 bits n l h = ap (of_z w32) (difference (4294967295 - n) (omega arith)) ∙ omega arith
 
-cast-result : tie.Need-overflow-cast-result
-cast-result c = search rules
+pub overflow_sub-result-else-n-lt2147483648 : goal.overflow_sub-result-else-n-lt2147483648
+overflow_sub-result-else-n-lt2147483648 c = difference_fits (4294967295 - c.args.n) (omega arith)
 
-sub-result : tie.Need-overflow-sub-result
-sub-result c = search rules
-
-cast-result-2 : tie.Need-overflow-cast-result-2
-cast-result-2 c = search rules
-
-sub-result-2 : tie.Need-overflow-sub-result-2
-sub-result-2 c = difference_fits (4294967295 - c.before.args.n) (omega arith)
-
-returns : tie.Need-returns
-returns c = search rules
-
-returns-2 : tie.Need-returns-2
-returns-2 c = ap (to_z w32) (bits _ c.if1.false c.before.requires)
-
-pub signed-spec : {M : Type 1} → statement M
-signed-spec =
-    tie.close (tie.spec cast-result sub-result cast-result-2 sub-result-2 returns returns-2)
+pub returns-else-n-lt2147483648 : goal.returns-else-n-lt2147483648
+returns-else-n-lt2147483648 c = ap (to_z w32) (bits _ c.if-n-lt2147483648.false c.requires)
