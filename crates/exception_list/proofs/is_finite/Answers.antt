@@ -25,7 +25,7 @@ beyond : (x : Float) {m : Float} → m ≡ inf true → lt m x ≡ false → fal
 beyond x e h = outside x (ap (λ (m : Float). lt m x) (sym e) ∙ h)
 
 pub returns-then-minus_infinity-x : goal.returns-then-minus_infinity-x
-returns-then-minus_infinity-x c = let c2 = c in within c2.args.x c2.minus_infinity.ensures c.infinity.ensures c.if-minus_infinity-x.true
+returns-then-minus_infinity-x c = within c.args.x c.minus_infinity.ensures c.infinity.ensures c.if-minus_infinity-x.true
 
 pub returns-else-minus_infinity-x : goal.returns-else-minus_infinity-x
-returns-else-minus_infinity-x c = let c1 = c in beyond c1.args.x c1.minus_infinity.ensures c.if-minus_infinity-x.false
+returns-else-minus_infinity-x c = beyond c.args.x c.minus_infinity.ensures c.if-minus_infinity-x.false
