@@ -3,15 +3,13 @@ use mathlib.Core.Path.{◌≡◌, refl, sym, ap, ◌∙◌}
 use mathlib.Core.Logic.{◌⊎◌, inl, inr, ⊎_elim}
 use mathlib.Core.Bool.{Bool, true, false, ◌&&◌, cond}
 use Prim.Native.Nat.{ℕ, zero, suc, ◌+◌, ◌-◌, ◌*◌, ◌/◌, ◌^◌, ◌≤◌, ◌<◌}
-use native.Mathlib.Nat.{le_trans, le_of_eq, le_antisymm, div-eq_of_eq-mul_left, mul-le-mul_right, div-lt_iff_lt-mul, le-div_iff_mul-le, lt_of_lt_of_le}
+use native.Mathlib.Nat.{le_trans, le_of_eq, le_antisymm, div-eq_of_eq-mul_left, mul-le-mul_right, le-div_iff_mul-le}
 use native.Mathlib.Omega.{arith}
 use lib.Dec.{leb, eqb}
 use lib.Pow.{pow-add, pow_pos, shl_lt, shr_lt, shl-shr}
-use lib.Ieee.{size}
 use borrow.Author.Tests.{eq-eqb, le-leb, eqb-true, leb-true}
 use Rattle.rounding.specs.Machine.{sign_bit}
 use Rattle.exactness.proofs.Precision.{dropped, dropped_lt, dropped_le, dropped_full, dropped_ge}
-use Rattle.reply.specs.declared.Reply.{Reply}
 use Rattle.reply.specs.declared.Reply.TheVariants.{Refused, Bits}
 use Rattle.constant.specs.Constant.{reply_with, exactly}
 

@@ -1,10 +1,8 @@
 -- Worked examples of specs/Constant.antt, computed, and its theorems at a text of each reply. Assumes nothing.
-use Prim.Native.Nat.{ℕ}
 use Prim.Native.String.{String}
 use mathlib.Core.Path.{◌≡◌, refl}
-use mathlib.Core.Logic.{inl, inr}
 use mathlib.Core.List.{List, [], ◌∷◌, map}
-use Rattle.hexadecimal.specs.Text.{Spells, parts_of, number_from, digit_of, negative}
+use Rattle.hexadecimal.specs.Text.{parts_of, number_from, digit_of}
 use Rattle.hexadecimal.specs.Test.{has_form}
 use Rattle.hexadecimal.proofs.Form.{decides}
 use Rattle.hexadecimal.proofs.Examples.{bytes}

@@ -2,13 +2,12 @@
 use mathlib.Core.Path.{◌≡◌, refl, sym, ap, ◌∙◌, subst}
 use mathlib.Core.Bool.{Bool, true, false, cond}
 use Prim.Native.Nat.{ℕ, zero, suc, ◌+◌, ◌-◌, ◌*◌, ◌^◌, ◌≤◌, ◌<◌}
-use native.Mathlib.Nat.{le_trans, le_of_eq, lt_of_lt_of_le, lt_of_le_of_lt, lt_irrefl, not-le_of_lt, mul_assoc, mul_comm, mul_left_comm, mul_right_comm, mul-pos, one-le-mul, one-mul, zero-mul, mul-le-mul, mul-le-mul_left, mul-le-mul_right, mul-lt-mul_of_pos_left, mul-lt-mul_of_pos_right, le_of_mul-le-mul_right, eq_of_mul-eq-mul_right, pow-le-pow_right, pow-suc, zero-lt-suc}
+use native.Mathlib.Nat.{le_trans, le_of_eq, lt_of_lt_of_le, lt_irrefl, not-le_of_lt, mul_assoc, mul_comm, mul_left_comm, mul_right_comm, mul-pos, one-le-mul, one-mul, zero-mul, mul-le-mul, mul-le-mul_left, mul-le-mul_right, mul-lt-mul_of_pos_left, mul-lt-mul_of_pos_right, le_of_mul-le-mul_right, eq_of_mul-eq-mul_right, pow-le-pow_right, pow-suc, zero-lt-suc}
 use native.Mathlib.Omega.{arith}
 use lib.Dec.{lit≤, lit<}
 use lib.Pow.{pow-add, pow_pos, pow_mono, shl_lt}
 use Rattle.reply.specs.declared.Reply.{Reply}
 use Rattle.reply.specs.declared.Reply.TheVariants.{Refused}
-use Rattle.constant.specs.Constant.{exactly}
 use Rattle.constant.specs.Machine.{RepliesBits, RepliesPlaced}
 use Rattle.constant.proofs.Exactly.{Finite, exactly_none}
 

@@ -3,7 +3,7 @@ use mathlib.Core.Path.{◌≡◌, refl, sym, ap, ap₂, ◌∙◌, subst}
 use mathlib.Core.Logic.{◌⊎◌, inl, inr, ⊎_elim}
 use mathlib.Core.Bool.{Bool, true, false, cond}
 use mathlib.Core.List.{List}
-use Prim.Native.Nat.{ℕ, zero, suc, ◌+◌, ◌*◌, ◌/◌, ◌%◌, ◌^◌, ◌≤◌, ◌<◌}
+use Prim.Native.Nat.{ℕ, ◌+◌, ◌*◌, ◌%◌, ◌^◌, ◌≤◌, ◌<◌}
 use native.Mathlib.Nat.{add-zero, zero-mul, lt_of_lt_of_le, mul_right_comm, eq_of_mul-eq-mul_right}
 use native.Mathlib.Omega.{arith}
 use lib.Dec.{T, lit≤, lit<}
@@ -28,17 +28,21 @@ use Rattle.constant.proofs.Exactly.{Finite, Outcome, float, none, outcome, exact
 use Rattle.constant.specs.Machine.{read_from, unread, Finishes}
 use Rattle.constant.proofs.Places.{line_pos}
 use Rattle.constant.proofs.Kept.{stage_read}
-use Rattle.constant.proofs.Spelled.{Read, read_text}
+use Rattle.constant.proofs.Spelled.{read_text}
 
 -- ---- a pattern and its units
 
 -- the same value by another fraction
 same_value : (x : Float) (s : Bool) (w l a c : ℕ) → 0 < l → a * l ≡ w * c → HasValue x s w l → HasValue x s a c
 same_value (fin t m e) s w l a c p h v = (v.0, eq_of_mul-eq-mul_right l p (m * up e * c) (a * down e) (mul_right_comm (m * up e) c l ∙ ap (λ (x : ℕ). x * c) v.1 ∙ mul_right_comm w (down e) c ∙ ap (λ (x : ℕ). x * down e) (sym h) ∙ mul_right_comm a l (down e)))
+same_value nan s w l a c p h v = elim v [ ]
+same_value (inf _) s w l a c p h v = elim v [ ]
 
 -- and two fractions of one value
 one_value : (x : Float) (s t : Bool) (w l a c : ℕ) → HasValue x s w l → HasValue x t a c → (s ≡ t) × (a * l ≡ w * c)
 one_value (fin u m e) s t w l a c v z = (sym v.0 ∙ z.0, eq_of_mul-eq-mul_right (down e) (down_pos e) (a * l) (w * c) (mul_right_comm a l (down e) ∙ ap (λ (x : ℕ). x * l) (sym z.1) ∙ mul_right_comm (m * up e) c l ∙ ap (λ (x : ℕ). x * c) v.1 ∙ mul_right_comm w (down e) c))
+one_value nan s t w l a c v z = elim v [ ]
+one_value (inf _) s t w l a c v z = elim v [ ]
 
 -- a pattern has one number of units
 one_units : (q k q' k' : ℕ) → k * 0x10000000000000 + q ≡ k' * 0x10000000000000 + q' → q < 2 ^ 53 → (k ≡ 0) ⊎ (2 ^ 52 ≤ q) → q' < 2 ^ 53 → (k' ≡ 0) ⊎ (2 ^ 52 ≤ q') → (q ≡ q') × (k ≡ k')
@@ -101,7 +105,7 @@ module _ (s : Bool) (n d : ℕ) (D : 0 < d) where
   value_float b B v = ⊎_elim (λ g. absurd (special g)) (λ g. go g (operands.finite b g)) (le_or_gt 0x7ff0000000000000 (magnitude b))
     where
       special : 0x7ff0000000000000 ≤ magnitude b → ⊥
-      special g = ⊎_elim (λ l. subst (λ (y : Float). HasValue y s n d) (operands.read-inf b (both (magnitude b) g l)) v) (λ l. subst (λ (y : Float). HasValue y s n d) (operands.read-nan b l) v) (le_or_gt (magnitude b) 0x7ff0000000000000)
+      special g = ⊎_elim (λ l. subst (λ (y : Float). HasValue y s n d) (operands.read_inf b (both (magnitude b) g l)) v) (λ l. subst (λ (y : Float). HasValue y s n d) (operands.read_nan b l) v) (le_or_gt (magnitude b) 0x7ff0000000000000)
         where
           both : (y : ℕ) → 0x7ff0000000000000 ≤ y → y ≤ 0x7ff0000000000000 → y ≡ 0x7ff0000000000000
           both y a c = omega arith
@@ -113,12 +117,12 @@ module _ (s : Bool) (n d : ℕ) (D : 0 < d) where
       go : magnitude b < 0x7ff0000000000000 → operands.Finite b → (q : ℕ) × ((k : ℕ) × (Finite n d q k × (b ≡ sign_bit s + (k * 0x10000000000000 + q))))
       go g (operands.units q k u) =
           let w = one_value (of_bits binary64 b) (sign_of b) s (q * 2 ^ k) (2 ^ 1074) n d u.value v in
-          (q, (k, (record { small = u.small; kept = u.kept; most = most q k (magnitude b) g u.pattern u.kept; is = w.1 }, sym (operands.pattern-back b (magnitude b) B refl) ∙ ap₂ (λ (t : Bool) (y : ℕ). sign_bit t + y) w.0 u.pattern)))
+          (q, (k, (record { small = u.small; kept = u.kept; most = most q k (magnitude b) g u.pattern u.kept; is = w.1 }, sym (operands.pattern_back b (magnitude b) B refl) ∙ ap₂ (λ (t : Bool) (y : ℕ). sign_bit t + y) w.0 u.pattern)))
 
 -- ---- the reply to a text
 
 den_pos : (parts : Parts) → 0 < den parts
-den_pos parts = line_pos (is_minus parts.exponentSign) (length parts.fraction) (number 10 parts.exponent)
+den_pos parts = line_pos (is_minus parts.exponent_sign) (length parts.fraction) (number 10 parts.exponent)
 
 with_form : (text : List ℕ) → has_form text ≡ true → constant_of text ≡ value_of (parts_of text)
 unfolding constant_of
@@ -134,6 +138,7 @@ spelled parts text h = with_form text (passes (has_form text) ((decides text).ne
   where
     passes : (b : Bool) → T b → b ≡ true
     passes true t = refl
+    passes false t = elim t [ ]
 
 -- and any other is refused
 pub unspelled : (text : List ℕ) → (HasForm text → ⊥) → constant_of text ≡ Refused 9
@@ -179,7 +184,7 @@ zero_keeps_sign text parts h z =
     ∙ ap Bits (add-zero (sign_bit (negative parts)))
   where
     power : ℕ
-    power = cond (is_minus parts.exponentSign) 1 (2 ^ number 10 parts.exponent)
+    power = cond (is_minus parts.exponent_sign) 1 (2 ^ number 10 parts.exponent)
 
 -- ---- the reply to a text that was read
 

@@ -127,12 +127,12 @@ at_unread = record { stage = refl; negative = refl; kept = kept_none; down = ref
 pub read_text : (parts : Parts) (text : List ℕ) → Spells parts text → Steps parts → Read (read_from unread text) parts
 unfolding spelling moved_to
 read_text parts text spells steps =
-    let sign = at_signed parts.sign spells.sign-once steps.sign at_unread in
+    let sign = at_signed parts.sign spells.sign_once steps.sign at_unread in
     let x = at_still Prefix parts.x (λ r b. refl) steps.x (at_still Zero parts.zero (λ r b. refl) steps.zero sign) in
     let whole = at_whole parts.whole spells.whole steps.whole (rw steps.prefix at x) in
-    let point = at_still steps.pointStage parts.point (still_point _ steps.pointStage-is) steps.point whole in
+    let point = at_still steps.point_stage parts.point (still_point _ steps.point_stage-is) steps.point whole in
     let fraction = at_fraction parts.fraction spells.fraction steps.fraction point in
     let p = at_still P parts.p (λ r b. refl) steps.p fraction in
-    let exponent_sign = at_exponent_signed parts.exponent_sign spells.exponent-sign-once steps.exponent_sign (rw steps.at_p at p) in
+    let exponent_sign = at_exponent_signed parts.exponent_sign spells.exponent_sign_once steps.exponent_sign (rw steps.at_p at p) in
     let exponent = at_exponent parts.exponent spells.exponent steps.exponent exponent_sign in
     rw spells.spelled (simp read_from-append (read_at parts (rw steps.last at exponent)))

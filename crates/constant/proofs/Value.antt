@@ -1,14 +1,14 @@
 -- The reply to what is kept of a number: zero, more digits than a float has, an exponent far from the digits' places, or a number by its places.
 -- Assumes nothing.
-use mathlib.Core.Path.{◌≡◌, refl, sym, ap, ap₂, ◌∙◌, subst}
-use mathlib.Core.Logic.{◌⊎◌, inl, inr, ⊎_elim}
-use mathlib.Core.Bool.{Bool, true, false, not, cond}
-use Prim.Native.Nat.{ℕ, zero, suc, ◌+◌, ◌-◌, ◌*◌, ◌/◌, ◌%◌, ◌^◌, ◌≤◌, ◌<◌}
-use native.Mathlib.Nat.{le_trans, le_of_eq, le_refl, lt_of_lt_of_le, not-le_of_lt, mul_assoc, mul_comm, mul_left_comm, mul_right_comm, mul-pos, mul-one, one-le-mul, one-mul, zero-mul, add-zero, add_assoc, mul-le-mul, mul-le-mul_left, mul-le-mul_right, le_of_mul-le-mul_right, eq_of_mul-eq-mul_right, mul-mod_left, mul-add-mod_self_right, mod-eq_of_lt, zero-lt-suc, le-mul_of_pos_right, le-add_right}
+use mathlib.Core.Path.{◌≡◌, refl, sym, ap, ap₂, ◌∙◌}
+use mathlib.Core.Logic.{inl, ⊎_elim}
+use mathlib.Core.Bool.{Bool, true, false, cond}
+use Prim.Native.Nat.{ℕ, ◌+◌, ◌-◌, ◌*◌, ◌/◌, ◌%◌, ◌^◌, ◌≤◌, ◌<◌}
+use native.Mathlib.Nat.{le_trans, le_of_eq, lt_of_lt_of_le, not-le_of_lt, mul_assoc, mul_comm, mul_left_comm, mul_right_comm, mul-pos, mul-one, one-le-mul, one-mul, zero-mul, add-zero, add_assoc, mul-le-mul_left, mul-le-mul_right, le_of_mul-le-mul_right, eq_of_mul-eq-mul_right, mul-mod_left, mul-add-mod_self_right, mod-eq_of_lt, le-mul_of_pos_right, le-add_right}
 use native.Mathlib.Omega.{arith}
-use lib.Dec.{ltb, eqb, lit≤, lit<}
+use lib.Dec.{ltb, lit≤, lit<}
 use lib.Pow.{pow-add, pow_pos, pow_mono, shl_lt}
-use borrow.Author.Tests.{eqb-true, eqb-false, eq-eqb, ne_eqb, lt-ltb, ltb-true, ltb-false}
+use borrow.Author.Tests.{eqb-true, eqb-false, eq-eqb, ne_eqb, ltb-false}
 use Rattle.wide.proofs.Nat.{le_or_gt}
 use Rattle.rounding.specs.Machine.{sign_bit}
 use Rattle.reply.specs.declared.Reply.{Reply}
@@ -16,9 +16,9 @@ use Rattle.reply.specs.declared.Reply.TheVariants.{Refused, Bits}
 use Rattle.constant.specs.declared.Significand.{Significand}
 use Rattle.constant.specs.declared.Power.{Power}
 use Rattle.constant.specs.Constant.{exactly}
-use Rattle.constant.specs.Machine.{most, most_places, Kept, Counts, Holds, RepliesPlaced}
+use Rattle.constant.specs.Machine.{most, most_places, Kept, Holds, RepliesPlaced}
 use Rattle.constant.proofs.Exactly.{Finite, exactly_bits, exactly_none}
-use Rattle.constant.proofs.Places.{sixteen, pow16_pos, pow16_mono, small_none, large_none, positive, line_pos}
+use Rattle.constant.proofs.Places.{sixteen, pow16_pos, small_none, large_none, positive, line_pos}
 
 -- ---- digits beyond 53
 
@@ -83,7 +83,7 @@ den_pos b places power h = lt_of_lt_of_le (line_pos b places power) (le_of_eq (s
 
 module _ (s : Significand) (e : Power) (inverse neg : Bool) where
   pub zero_value : (sign : ℕ) → s.value ≡ 0 → sign ≡ sign_bit neg → (num den : ℕ) → Holds s e inverse num den → Bits sign ≡ exactly neg num den
-  zero_value sign v b num den h = ap Bits (b ∙ sym (add-zero (sign_bit neg))) ∙ sym (exactly_bits neg num den 0 0 (den_pos inverse h.places h.power h.den-is) (record { small = lit< tt; kept = inl refl; most = lit≤ tt; is = ap (λ (x : ℕ). x * 2 ^ 1074) none ∙ zero-mul (2 ^ 1074) ∙ sym (zero-mul den) }))
+  zero_value sign v b num den h = ap Bits (b ∙ sym (add-zero (sign_bit neg))) ∙ sym (exactly_bits neg num den 0 0 (den_pos inverse h.places h.power h.den_is) (record { small = lit< tt; kept = inl refl; most = lit≤ tt; is = ap (λ (x : ℕ). x * 2 ^ 1074) none ∙ zero-mul (2 ^ 1074) ∙ sym (zero-mul den) }))
     where
       number_zero : (k : Kept s h.number h.places) → h.number ≡ 0
       number_zero k = ⊎_elim (λ g. k.is ∙ ap₂ (λ (x y : ℕ). x * 16 ^ k.dropped + y) v (nothing k.dropped k.rest g k.less) ∙ add-zero (0 * 16 ^ k.dropped) ∙ zero-mul (16 ^ k.dropped)) (λ g. absurd (full s.value v g)) k.full
@@ -92,10 +92,10 @@ module _ (s : Significand) (e : Power) (inverse neg : Bool) where
           full x a b = omega arith
 
       none : num ≡ 0
-      none = h.num-is ∙ ap (λ (x : ℕ). x * cond inverse 1 (2 ^ h.power)) (number_zero h.kept) ∙ zero-mul (cond inverse 1 (2 ^ h.power))
+      none = h.num_is ∙ ap (λ (x : ℕ). x * cond inverse 1 (2 ^ h.power)) (number_zero h.kept) ∙ zero-mul (cond inverse 1 (2 ^ h.power))
 
   pub lost_value : (s.lost ≡ 0 → ⊥) → (num den : ℕ) → Holds s e inverse num den → Refused 10 ≡ exactly neg num den
-  lost_value l num den h = sym (exactly_none neg num den (den_pos inverse h.places h.power h.den-is) none)
+  lost_value l num den h = sym (exactly_none neg num den (den_pos inverse h.places h.power h.den_is) none)
     where
       k : Kept s h.number h.places
       k = h.kept
@@ -127,21 +127,21 @@ module _ (s : Significand) (e : Power) (inverse neg : Bool) where
           below = ap (λ (x : ℕ). q * 2 ^ j * x) (mul-one (16 ^ h.places) ∙ sixteen h.places) ∙ mul_assoc q (2 ^ j) (2 ^ (4 * h.places)) ∙ ap (λ (x : ℕ). q * x) (sym (pow-add 2 j (4 * h.places)))
 
       none : (q j : ℕ) → Finite num den q j → ⊥
-      none q j f = sides inverse q j (ap (λ (x : ℕ). x * 2 ^ 1074) (sym h.num-is) ∙ f.is ∙ ap (λ (x : ℕ). q * 2 ^ j * x) h.den-is) f.small
+      none q j f = sides inverse q j (ap (λ (x : ℕ). x * 2 ^ 1074) (sym h.num_is) ∙ f.is ∙ ap (λ (x : ℕ). q * 2 ^ j * x) h.den_is) f.small
 
   module _ (l : s.lost ≡ 0) (num den : ℕ) (h : Holds s e inverse num den) where
     number_is : h.number * 16 ^ s.lowered ≡ s.value * (16 ^ s.raised * 16 ^ h.places)
     number_is = kept_number s h.number h.places h.kept l
 
     positive_den : 0 < den
-    positive_den = den_pos inverse h.places h.power h.den-is
+    positive_den = den_pos inverse h.places h.power h.den_is
 
     module _ (n : inverse ≡ false) where
       num_above : num ≡ h.number * 2 ^ h.power
-      num_above = h.num-is ∙ ap (λ (b : Bool). h.number * cond b 1 (2 ^ h.power)) n
+      num_above = h.num_is ∙ ap (λ (b : Bool). h.number * cond b 1 (2 ^ h.power)) n
 
       den_above : den ≡ 16 ^ h.places
-      den_above = h.den-is ∙ ap (λ (b : Bool). 16 ^ h.places * cond b (2 ^ h.power) 1) n ∙ mul-one (16 ^ h.places)
+      den_above = h.den_is ∙ ap (λ (b : Bool). 16 ^ h.places * cond b (2 ^ h.power) 1) n ∙ mul-one (16 ^ h.places)
 
       size_above : num * 16 ^ s.lowered ≡ s.value * (16 ^ s.raised * 16 ^ h.places) * 2 ^ h.power
       size_above = ap (λ (x : ℕ). x * 16 ^ s.lowered) num_above ∙ mul_right_comm h.number (2 ^ h.power) (16 ^ s.lowered) ∙ ap (λ (x : ℕ). x * 2 ^ h.power) number_is
@@ -187,10 +187,10 @@ module _ (s : Significand) (e : Power) (inverse neg : Bool) where
 
     module _ (n : inverse ≡ true) where
       num_below : num ≡ h.number
-      num_below = h.num-is ∙ ap (λ (b : Bool). h.number * cond b 1 (2 ^ h.power)) n ∙ mul-one h.number
+      num_below = h.num_is ∙ ap (λ (b : Bool). h.number * cond b 1 (2 ^ h.power)) n ∙ mul-one h.number
 
       den_below : den ≡ 16 ^ h.places * 2 ^ h.power
-      den_below = h.den-is ∙ ap (λ (b : Bool). 16 ^ h.places * cond b (2 ^ h.power) 1) n
+      den_below = h.den_is ∙ ap (λ (b : Bool). 16 ^ h.places * cond b (2 ^ h.power) 1) n
 
       size_below : num * 16 ^ s.lowered ≡ s.value * (16 ^ s.raised * 16 ^ h.places)
       size_below = ap (λ (x : ℕ). x * 16 ^ s.lowered) num_below ∙ number_is

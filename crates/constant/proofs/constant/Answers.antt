@@ -8,8 +8,7 @@ use Rattle.constant.specs.declared.Reading.{Reading}
 use Rattle.constant.specs.Machine.{Within, most_places, read_from, unread, Finishes}
 use Rattle.constant.proofs.Kept.{within_le, within_read, within_unread}
 use Rattle.constant.proofs.Replies.{read_reply}
-use Rattle.constant.proofs.constant.Statement.{statement}
-use Rattle.constant.proofs.constant.Tie as tie
+use Rattle.constant.proofs.constant.Goals as goal
 
 ready : (n : ℕ) (r : Reading) → r ≡ unread → Within n r
 ready n r e = subst (Within n) (sym e) (within_le 0 n unread (omega arith) within_unread)
@@ -20,17 +19,11 @@ read f r text e h = h ∙ ap (λ (x : Reading). read_from x text) e
 within : (r : Reading) (text : List ℕ) → r ≡ read_from unread text → length text ≤ most_places → Within most_places r
 within r text e l = subst (Within most_places) (sym e) (within_le (0 + length text) most_places (read_from unread text) (omega arith) (within_read 0 unread text within_unread))
 
-fresh-requires : tie.Need-fresh-requires
-fresh-requires c κs = tt
+pub read_on-requires : goal.read_on-requires
+read_on-requires c = ready _ _ c.fresh.ensures
 
-read-on-requires : tie.Need-read-on-requires
-read-on-requires c κs = ready _ _ c.fresh.ensures
+pub finish-requires : goal.finish-requires
+finish-requires c = within _ _ (read _ _ _ c.fresh.ensures c.read_on.ensures) (omega arith)
 
-finish-requires : tie.Need-finish-requires
-finish-requires c κs = within _ _ (read _ _ _ c.before.fresh.ensures c.read-on.ensures) (omega arith)
-
-returns : tie.Need-returns
-returns c = read_reply _ _ (subst (λ (r : Reading). Finishes r c.finish.result) (read _ _ _ c.before.before.fresh.ensures c.before.read-on.ensures) c.finish.ensures)
-
-pub constant-spec : {M : Type 1} → statement M
-constant-spec = tie.close (tie.spec fresh-requires read-on-requires finish-requires returns)
+pub returns : goal.returns
+returns c = read_reply _ _ (subst (λ (r : Reading). Finishes r c.finish.result) (read _ _ _ c.fresh.ensures c.read_on.ensures) c.finish.ensures)
