@@ -12,15 +12,11 @@ use Rattle.counts.proofs.write_report.Goals as goal
 pub returns : goal.returns
 unfolding report_of
 returns c =
-    let third = c in
-    let second = third in
-    let first = second in
-    let s = first in
-    let n = s.args.counts in
-    let out = s.args.out.now in
+    let n = c.args.counts in
+    let out = c.args.out.now in
     let a = c.write_u64.new.out in
-    let b = put_behind 8 8 a out (word_bytes n.accepted) (word_bytes n.refused) _ (length_word n.accepted) first.write_u64.ensures second.write_u64-2.ensures in
+    let b = put_behind 8 8 a out (word_bytes n.accepted) (word_bytes n.refused) _ (length_word n.accepted) c.write_u64.ensures c.write_u64-2.ensures in
     put_behind 16 8 _ out (word_bytes n.accepted ++ word_bytes n.refused) (word_bytes n.total) _
     (length-append (word_bytes n.accepted) (word_bytes n.refused) ∙ omega (arith, length_word n.accepted, length_word n.refused))
     b
-    third.write_u64-3.ensures
+    c.write_u64-3.ensures

@@ -14,9 +14,8 @@ returns-then-kind-eq-REPORT c = sym (bad_report c.if-kind-eq-REPORT.true c.args.
 
 pub returns-then-n-from : goal.returns-then-n-from
 returns-then-n-from c =
-    let s = c in
     let e = c.items_from-from.ensures.0 in
-    sym (bad_items s.args.kind s.args.n c.if-kind-eq-REPORT.false ∙ rw (le-leb s.args.n (items_from s.args.kind) (omega arith)) refl)
+    sym (bad_items c.args.kind c.args.n c.if-kind-eq-REPORT.false ∙ rw (le-leb c.args.n (items_from c.args.kind) (omega arith)) refl)
 
 -- whole items behind what precedes them
 
@@ -25,20 +24,16 @@ rest kind n z h e f = (λ i. not (eqb (e i % f i) 0)) ∙ sym (bad_items kind n 
 
 pub returns-then-kind-eq-SHEET : goal.returns-then-kind-eq-SHEET
 returns-then-kind-eq-SHEET c =
-    let f = c in
-    let s = f in
-    let kind = s.args.kind in
-    let n = s.args.n in
-    let z = f.items_from-from.ensures.0 in
+    let kind = c.args.kind in
+    let n = c.args.n in
+    let z = c.items_from-from.ensures.0 in
     let all : n ≡ n - items_from kind = omega (arith, items_first kind (λ h. omega arith)) in
-    rest kind n f.if-kind-eq-REPORT.false (omega arith) all (sym (item_line c.if-kind-eq-SHEET.true))
+    rest kind n c.if-kind-eq-REPORT.false (omega arith) all (sym (item_line c.if-kind-eq-SHEET.true))
 
 pub item_bytes-requires : goal.item_bytes-requires
 item_bytes-requires c = c.if-kind-eq-SHEET.false
 
 pub returns : goal.returns
 returns c =
-    let f = c in
-    let s = f in
-    let e = f.items_from-from.ensures.0 in
-    rest s.args.kind s.args.n f.if-kind-eq-REPORT.false (omega arith) (λ i. s.args.n - e i) c.item_bytes.ensures.0
+    let e = c.items_from-from.ensures.0 in
+    rest c.args.kind c.args.n c.if-kind-eq-REPORT.false (omega arith) (λ i. c.args.n - e i) c.item_bytes.ensures.0

@@ -16,20 +16,15 @@ all kind e n = omega (arith, items_first kind e)
 
 pub returns-then-kind-eq-SCORES : goal.returns-then-kind-eq-SCORES
 returns-then-kind-eq-SCORES c =
-    let t = c in
-    let s = t in
-    let n = s.args.n in
-    counted s.args.kind n (λ i. all s.args.kind (λ h. omega arith) n i / c.item_bytes.ensures.0 i)
+    let n = c.args.n in
+    counted c.args.kind n (λ i. all c.args.kind (λ h. omega arith) n i / c.item_bytes.ensures.0 i)
 
 pub returns-then-kind-eq-SHEET : goal.returns-then-kind-eq-SHEET
 returns-then-kind-eq-SHEET c =
-    let s = c in
-    let n = s.args.n in
-    counted s.args.kind n (λ i. all s.args.kind (λ h. omega arith) n i / sym (item_line c.if-kind-eq-SHEET.true) i)
+    let n = c.args.n in
+    counted c.args.kind n (λ i. all c.args.kind (λ h. omega arith) n i / sym (item_line c.if-kind-eq-SHEET.true) i)
 
 pub returns : goal.returns
 returns c =
-    let f = c in
-    let s = f in
-    let n = s.args.n in
-    counted s.args.kind n (λ i. (n - f.items_from.ensures.0 i) / c.item_bytes-2.ensures.0 i)
+    let n = c.args.n in
+    counted c.args.kind n (λ i. (n - c.items_from.ensures.0 i) / c.item_bytes-2.ensures.0 i)

@@ -19,38 +19,30 @@ returns-then-n-gt-LONGEST_BODY c = sym (too_long _ _ c.if-n-lt2.false c.if-n-gt-
 
 pub bounds-body-0 : goal.bounds-body-0
 bounds-body-0 c =
-    let s = c in
-    let e = body_length_lem s.args.n s.args.body.now (omega arith) (omega arith) s.requires in
+    let e = body_length_lem c.args.n c.args.body.now (omega arith) (omega arith) c.requires in
     omega arith
 
 pub returns-then-body-ne-VERSION : goal.returns-then-body-ne-VERSION
 returns-then-body-ne-VERSION c =
-    let s = c in
-    sym (bad_version s.args.n s.args.body.now (omega arith) (omega arith) c.if-body-ne-VERSION.true)
+    sym (bad_version c.args.n c.args.body.now (omega arith) (omega arith) c.if-body-ne-VERSION.true)
 
 pub bounds-body-1 : goal.bounds-body-1
 bounds-body-1 c =
-    let s = c in
-    let e = body_length_lem s.args.n s.args.body.now (omega arith) (omega arith) s.requires in
+    let e = body_length_lem c.args.n c.args.body.now (omega arith) (omega arith) c.requires in
     omega arith
 
 pub returns-then-own-ne0 : goal.returns-then-own-ne0
 returns-then-own-ne0 c =
-    let k = c in
-    let s = k in
     sym
-    (own_refusal s.args.n s.args.body.now (omega arith) (omega arith) (omega arith) (sym k.is_kind.ensures ∙ k.if-is_kind.true)
-    (c.own_refusal-own.ensures ∙ ap (λ (p : List ℕ). (kind_of (get_or s.args.body.now 1 0)).own p) (payload_contents _ _ c.payload-rest.ensures))
+    (own_refusal c.args.n c.args.body.now (omega arith) (omega arith) (omega arith) (sym c.is_kind.ensures ∙ c.if-is_kind.true)
+    (c.own_refusal-own.ensures ∙ ap (λ (p : List ℕ). (kind_of (get_or c.args.body.now 1 0)).own p) (payload_contents _ _ c.payload-rest.ensures))
     c.if-own-ne0.true)
 
 pub returns-then-bad_payload : goal.returns-then-bad_payload
 returns-then-bad_payload c =
-    let o = c in
-    let k = o in
-    let s = k in
     sym
-    (bad_payload_lem s.args.n s.args.body.now (omega arith) (omega arith) (omega arith) (sym k.is_kind.ensures ∙ k.if-is_kind.true)
-    (ap (λ (p : List ℕ). (kind_of (get_or s.args.body.now 1 0)).own p) (sym (payload_contents _ _ o.payload-rest.ensures)) ∙ sym o.own_refusal-own.ensures ∙ o.if-own-ne0.false)
+    (bad_payload_lem c.args.n c.args.body.now (omega arith) (omega arith) (omega arith) (sym c.is_kind.ensures ∙ c.if-is_kind.true)
+    (ap (λ (p : List ℕ). (kind_of (get_or c.args.body.now 1 0)).own p) (sym (payload_contents _ _ c.payload-rest.ensures)) ∙ sym c.own_refusal-own.ensures ∙ c.if-own-ne0.false)
     (sym c.bad_payload.ensures ∙ c.if-bad_payload.true))
 
 -- what its kind says after 5, in the words of its payload
@@ -64,31 +56,22 @@ later n b p l h v k q o z r f e =
 
 pub returns-then-kind-eq-SHEET : goal.returns-then-kind-eq-SHEET
 returns-then-kind-eq-SHEET c =
-    let l = c in
-    let o = l in
-    let k = o in
-    let s = k in
-    later s.args.n s.args.body.now _ (omega arith) (omega arith) (omega arith) (sym k.is_kind.ensures ∙ k.if-is_kind.true) (payload_contents _ _ o.payload-rest.ensures)
-    o.own_refusal-own.ensures
-    o.if-own-ne0.false
-    l.bad_payload.ensures
-    l.if-bad_payload.false
+    later c.args.n c.args.body.now _ (omega arith) (omega arith) (omega arith) (sym c.is_kind.ensures ∙ c.if-is_kind.true) (payload_contents _ _ c.payload-rest.ensures)
+    c.own_refusal-own.ensures
+    c.if-own-ne0.false
+    c.bad_payload.ensures
+    c.if-bad_payload.false
     (c.refusal.ensures ∙ sym (sheet_later c.if-kind-eq-SHEET.true _))
 
 pub returns-then-is_kind : goal.returns-then-is_kind
 returns-then-is_kind c =
-    let l = c in
-    let o = l in
-    let k = o in
-    let s = k in
-    later s.args.n s.args.body.now _ (omega arith) (omega arith) (omega arith) (sym k.is_kind.ensures ∙ k.if-is_kind.true) (payload_contents _ _ o.payload-rest.ensures)
-    o.own_refusal-own.ensures
-    o.if-own-ne0.false
-    l.bad_payload.ensures
-    l.if-bad_payload.false
+    later c.args.n c.args.body.now _ (omega arith) (omega arith) (omega arith) (sym c.is_kind.ensures ∙ c.if-is_kind.true) (payload_contents _ _ c.payload-rest.ensures)
+    c.own_refusal-own.ensures
+    c.if-own-ne0.false
+    c.bad_payload.ensures
+    c.if-bad_payload.false
     (sym (none_later _ _ c.if-kind-eq-SHEET.false))
 
 pub returns : goal.returns
 returns c =
-    let s = c in
-    sym (bad_kind s.args.n s.args.body.now (omega arith) (omega arith) (omega arith) (sym c.is_kind.ensures ∙ c.if-is_kind.false))
+    sym (bad_kind c.args.n c.args.body.now (omega arith) (omega arith) (omega arith) (sym c.is_kind.ensures ∙ c.if-is_kind.false))

@@ -21,14 +21,11 @@ returns-then-not-come_or_zero-2 c =
 
 pub returns : goal.returns
 returns c =
-    let a = c in
-    let d = a in
-    let e = d in
-    let s = e.args.frame in
+    let s = c.args.frame in
     c.zero_from.ensures
     ∙ sym
     (reach_body s
-    (sym e.is_whole.ensures ∙ e.if-is_whole.false)
-    (sym d.come_or_zero.ensures ∙ d.if-not-come_or_zero.false)
-    (sym a.come_or_zero-2.ensures ∙ a.if-not-come_or_zero-2.false)
+    (sym c.is_whole.ensures ∙ c.if-is_whole.false)
+    (sym c.come_or_zero.ensures ∙ c.if-not-come_or_zero.false)
+    (sym c.come_or_zero-2.ensures ∙ c.if-not-come_or_zero-2.false)
     ∙ ap (λ (n : ℕ). all_zero (drop n s.body)) (sym c.filled_places-from.ensures))

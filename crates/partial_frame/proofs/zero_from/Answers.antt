@@ -40,6 +40,5 @@ loop-i-preserved c =
 
 pub returns : goal.returns
 returns c =
-    let l = c in
-    let a = l.args in
-    ended a.bytes.now a.from l.loop-i.most l.loop-i.i l.loop-i.invariant c.loop-i-test.false
+    let a = c.args in
+    ended a.bytes.now a.from c.loop-i.most c.loop-i.i c.loop-i.invariant c.loop-i-test.false

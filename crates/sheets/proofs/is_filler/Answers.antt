@@ -7,11 +7,8 @@ use Rattle.sheets.proofs.is_filler.Goals as goal
 
 pub returns-then-read_u16-eq0 : goal.returns-then-read_u16-eq0
 returns-then-read_u16-eq0 c =
-    let t = c in
-    let s = t in
-    ap (λ (n : ℕ). eqb n 0) c.read_u32.ensures ∙ filler_last s.args.payload.now s.args.at s.requires (sym t.read_u16.ensures ∙ t.if-read_u16-eq0.true)
+    ap (λ (n : ℕ). eqb n 0) c.read_u32.ensures ∙ filler_last c.args.payload.now c.args.at c.requires (sym c.read_u16.ensures ∙ c.if-read_u16-eq0.true)
 
 pub returns : goal.returns
 returns c =
-    let s = c in
-    filler_first s.args.payload.now s.args.at s.requires (λ e. c.if-read_u16-eq0.false (c.read_u16.ensures ∙ e))
+    filler_first c.args.payload.now c.args.at c.requires (λ e. c.if-read_u16-eq0.false (c.read_u16.ensures ∙ e))

@@ -6,21 +6,16 @@ use Rattle.sheets.proofs.line_at.Goals as goal
 
 pub returns-then-form-eq0 : goal.returns-then-form-eq0
 returns-then-form-eq0 c =
-    let s = c in
-    ap Weight c.read_u64.ensures ∙ sym (first_form s.args.payload.now s.args.at c.if-form-eq0.true)
+    ap Weight c.read_u64.ensures ∙ sym (first_form c.args.payload.now c.args.at c.if-form-eq0.true)
 
 pub returns-then-is_filler : goal.returns-then-is_filler
 returns-then-is_filler c =
-    let t = c in
-    let s = t in
-    sym (second_form s.args.payload.now s.args.at t.if-form-eq1.true (sym t.is_filler.ensures ∙ t.if-is_filler.true))
+    sym (second_form c.args.payload.now c.args.at c.if-form-eq1.true (sym c.is_filler.ensures ∙ c.if-is_filler.true))
 
 pub returns-else-is_filler : goal.returns-else-is_filler
 returns-else-is_filler c =
-    let s = c in
-    sym (bad_filler s.args.payload.now s.args.at c.if-form-eq1.true (sym c.is_filler.ensures ∙ c.if-is_filler.false))
+    sym (bad_filler c.args.payload.now c.args.at c.if-form-eq1.true (sym c.is_filler.ensures ∙ c.if-is_filler.false))
 
 pub returns-else-form-eq1 : goal.returns-else-form-eq1
 returns-else-form-eq1 c =
-    let s = c in
-    sym (bad_form s.args.payload.now s.args.at c.if-form-eq0.false c.if-form-eq1.false)
+    sym (bad_form c.args.payload.now c.args.at c.if-form-eq0.false c.if-form-eq1.false)

@@ -29,10 +29,9 @@ refused p i at e f g = g ∙ ap (refusal_of i) (f ∙ ap (line_at p) e)
 
 pub returns-then-number-ne0 : goal.returns-then-number-ne0
 returns-then-number-ne0 c =
-    let t = c in
-    let l = t.loop-at in
-    let p = t.args.payload.now in
-    scan_stops p l.i (omega (arith, t.loop-at-test.true)) l.invariant.2 (refused p l.i l.at l.invariant.0 c.line_at.ensures c.line_refusal-number.ensures) c.if-number-ne0.true
+    let l = c.loop-at in
+    let p = c.args.payload.now in
+    scan_stops p l.i (omega (arith, c.loop-at-test.true)) l.invariant.2 (refused p l.i l.at l.invariant.0 c.line_at.ensures c.line_refusal-number.ensures) c.if-number-ne0.true
 
 pub overflow_add-i : goal.overflow_add-i
 overflow_add-i c = omega arith
@@ -45,9 +44,8 @@ loop-at-smaller c = omega arith
 
 pub loop-at-preserved : goal.loop-at-preserved
 loop-at-preserved c =
-    let t = c in
-    let l = t.loop-at in
-    let p = t.args.payload.now in (
+    let l = c.loop-at in
+    let p = c.args.payload.now in (
       omega arith,
       omega arith,
       ap (first_refusal p) (add-one l.i)
