@@ -86,12 +86,7 @@ struct Progress {
 }
 
 // Reads a piece of the input, and writes the replies to the lines that end in it.
-fn read_lines<P: Print + Eprint>(
-    rt: &P,
-    reading: Reading,
-    begun: bool,
-    piece: &[u8],
-) -> Progress
+fn read_lines<P: Print + Eprint>(rt: &P, reading: Reading, begun: bool, piece: &[u8]) -> Progress
     requires { Within (most_places - length piece.now) reading }
     ensures { (n : ℕ) → Within n reading → Within (n + length piece.now) result.reading }
 {
