@@ -6,9 +6,7 @@ use Rattle.pair.specs.Pair.{pair}
 use Rattle.double_double.specs.Pairs.{fma, fast_two_sum, s_mul}
 use Rattle.exp2m1_tiny.specs.Coefficients.{Q}
 use Rattle.exp2m1_tiny.specs.Tiny.{horner_step, polynomial_q}
-use borrow.Author.Rules.{rules}
-use Rattle.exp2m1_tiny.proofs.polynomial_q.Statement.{statement}
-use Rattle.exp2m1_tiny.proofs.polynomial_q.Tie as tie
+use Rattle.exp2m1_tiny.proofs.polynomial_q.Goals as goal
 
 follows : (x : Float) {c13 c11 d13 : Float} {p9 s t p7 p6 p5 p4 p3 p2 p1 p : Pair}
     → c13 ≡ fma (Q 20) x (Q 19)
@@ -29,40 +27,8 @@ follows : (x : Float) {c13 c11 d13 : Float} {p9 s t p7 p6 p5 p4 p3 p2 p1 p : Pai
 unfolding polynomial_q
 follows x h1 h2 h3 h4 h5 h6 h7 h8 h9 h10 h11 h12 h13 h14 = cc
 
-returns : tie.Need-returns
+pub returns : goal.returns
 returns c =
-    let c1 = c.before in
-    let c2 = c1.before in
-    let c3 = c2.before in
-    let c4 = c3.before in
-    let c5 = c4.before in
-    let c6 = c5.before in
-    let c7 = c6.before in
-    let c10 = c7.before.before.before in
-    let c11 = c10.before in
-    let c12 = c11.before in
-    let c13 = c12.before in
-    let c14 = c13.before in
-    follows _ c14.before.fma.ensures c14.fma2.ensures c13.fma3.ensures c12.fast-two-sum.ensures.0 c11.s-mul.ensures c10.fast-two-sum2.ensures.0
-    c7.horner-step.ensures c6.horner-step2.ensures c5.horner-step3.ensures c4.horner-step4.ensures c3.horner-step5.ensures c2.horner-step6.ensures
-    c1.horner-step7.ensures c.s-mul2.ensures
-
-pub polynomial-q-spec : {M : Type 1} → statement M
-polynomial-q-spec =
-    tie.close
-    (tie.spec
-    (λ c κs. search rules)
-    (λ c κs. search rules)
-    (λ c κs. search rules)
-    (λ c κs. search rules)
-    (λ c κs. search rules)
-    (λ c κs. search rules)
-    (λ c κs. search rules)
-    (λ c κs. search rules)
-    (λ c κs. search rules)
-    (λ c κs. search rules)
-    (λ c κs. search rules)
-    (λ c κs. search rules)
-    (λ c κs. search rules)
-    (λ c κs. search rules)
-    returns)
+    follows _ c.fma-c13.ensures c.fma-c11.ensures c.fma-c13-2.ensures c.fast_two_sum-p.ensures.value c.s_mul-p.ensures c.fast_two_sum-t.ensures.value
+    c.horner_step-p.ensures c.horner_step-p-2.ensures c.horner_step-p-3.ensures c.horner_step-p-4.ensures c.horner_step-p-5.ensures c.horner_step-p-6.ensures
+    c.horner_step-p-7.ensures c.s_mul.ensures

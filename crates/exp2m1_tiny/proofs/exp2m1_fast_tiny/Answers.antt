@@ -6,9 +6,7 @@ use Rattle.pair.specs.Pair.{bits}
 use Rattle.double_double.specs.Pairs.{fast_sum, a_mul, s_mul}
 use Rattle.exp2m1_tiny.specs.Coefficients.{P}
 use Rattle.exp2m1_tiny.specs.Tiny.{estimate, degree4, horner_step, exp2m1_fast_tiny}
-use borrow.Author.Rules.{rules}
-use Rattle.exp2m1_tiny.proofs.exp2m1_fast_tiny.Statement.{statement}
-use Rattle.exp2m1_tiny.proofs.exp2m1_fast_tiny.Tie as tie
+use Rattle.exp2m1_tiny.proofs.exp2m1_fast_tiny.Goals as goal
 
 follows : (x : Float) {c4 : Float} {a p3 p2 p1 p : Pair}
     → c4 ≡ degree4 x
@@ -21,24 +19,7 @@ follows : (x : Float) {c4 : Float} {a p3 p2 p1 p : Pair}
 unfolding degree4 exp2m1_fast_tiny
 follows x h1 h2 h3 h4 h5 h6 = cc
 
-returns : tie.Need-returns
+pub returns : goal.returns
 returns c =
-    let c1 = c.before in
-    let c2 = c1.before in
-    let c3 = c2.before in
-    let c4 = c3.before in
-    let c5 = c4.before in
-    follows _ c5.before.degree-4.ensures c5.a-mul.ensures.0 c4.fast_sum.ensures
-    c3.horner-step.ensures c2.horner-step2.ensures c1.s-mul.ensures
-
-pub exp2m1-fast-tiny-spec : {M : Type 1} → statement M
-exp2m1-fast-tiny-spec =
-    tie.close
-    (tie.spec
-    (λ c κs. search rules)
-    (λ c κs. search rules)
-    (λ c κs. search rules)
-    (λ c κs. search rules)
-    (λ c κs. search rules)
-    (λ c κs. search rules)
-    returns)
+    follows _ c.degree_4-c4.ensures c.a_mul-p.ensures.value c.fast_sum-p.ensures
+    c.horner_step-p.ensures c.horner_step-p-2.ensures c.s_mul-pair.ensures
