@@ -6,7 +6,6 @@ use native.Mathlib.Nat.{le_trans, le-add_right, mul-le-mul_right}
 use lib.Arith.{digits_lt}
 use lib.Dec.{leb}
 use borrow.Author.Tests.{leb-true, leb-false}
-use borrow.Author.Rules.{rules}
 use Rattle.wide.specs.declared.Wide.{Wide}
 use Rattle.wide.specs.Words.{value}
 use Rattle.fast_fused.proofs.NearSums.{picked}

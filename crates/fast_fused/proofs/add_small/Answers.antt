@@ -2,7 +2,6 @@
 use mathlib.Core.Path.{refl, sym, subst}
 use mathlib.Core.Bool.{Bool, true, false, cond, beq}
 use Prim.Native.Nat.{ℕ, ◌+◌, ◌-◌, ◌^◌, ◌≤◌, ◌<◌}
-use borrow.Author.Rules.{rules}
 use native.Mathlib.Omega.{arith}
 use Rattle.rounding.specs.declared.Direction.TheVariants.{Nearest}
 use Rattle.fast_fused.proofs.SmallProducts.{small_answer}

@@ -4,7 +4,6 @@ use Prim.Native.Nat.{ℕ, ◌≤◌, ◌<◌}
 use native.Mathlib.Nat.{lt_of_lt_of_le}
 use native.Mathlib.Omega.{arith}
 use lib.Dec.{lit≤}
-use borrow.Author.Rules.{rules}
 use Rattle.ieee754.proofs.Nans.{fused_numbers}
 use Rattle.operands.specs.Machine.{magnitude, field_of, Middle}
 use Rattle.fast_fused.specs.Machine.{Near, Small}

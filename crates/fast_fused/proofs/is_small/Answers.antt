@@ -3,7 +3,6 @@ use mathlib.Core.Path.{sym}
 use mathlib.Core.Bool.{true≢false}
 use Prim.Native.Nat.{◌+◌}
 use borrow.Author.Tests.{leb-true}
-use borrow.Author.Rules.{rules}
 use Rattle.fast_fused.proofs.is_small.Goals as goal
 
 pub returns-then-is_middle-3 : goal.returns-then-is_middle-3

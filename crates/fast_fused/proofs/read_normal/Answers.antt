@@ -4,7 +4,6 @@ use Prim.Native.Nat.{ℕ, suc, ◌+◌, ◌-◌, ◌%◌, ◌/◌, ◌≤◌, �
 use native.Mathlib.Omega.{arith}
 use Rattle.operands.proofs.Reading.{reads_mid}
 use Rattle.operands.specs.Machine.{field_of}
-use borrow.Author.Rules.{rules}
 use Rattle.fast_fused.proofs.read_normal.Goals as goal
 
 one_more : (x : ℕ) → 1 ≤ x → x ≡ suc (x - 1)

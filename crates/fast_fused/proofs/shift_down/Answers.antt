@@ -5,7 +5,6 @@ use Prim.Native.Nat.{ℕ, ◌/◌, ◌%◌, ◌^◌, ◌≤◌}
 use native.Mathlib.Nat.{le_of_lt}
 use lib.Dec.{ltb, lit≤}
 use borrow.Author.Tests.{ltb-true}
-use borrow.Author.Rules.{rules}
 use native.Mathlib.Omega.{arith}
 use Rattle.wide.specs.Words.{sticky}
 use Rattle.rounding.proofs.Increment.{one_shl, one_shl-pos}

@@ -1,5 +1,4 @@
 -- `fast_fused::shift_left` meets its contract. Assumes nothing.
-use borrow.Author.Rules.{rules}
 use native.Mathlib.Omega.{arith}
 use Rattle.fast_fused.proofs.NearSums.{shifted, shifted_more}
 use Rattle.fast_fused.proofs.shift_left.Goals as goal

@@ -1,7 +1,6 @@
 -- `fast_fused::small_product` meets its contract. Assumes nothing.
 use mathlib.Core.Path.{ap, ◌∙◌}
 use Prim.Native.Nat.{ℕ, ◌+◌, ◌-◌, ◌^◌}
-use borrow.Author.Rules.{rules}
 use Rattle.wide.specs.Words.{jammed}
 use Rattle.fast_fused.proofs.small_product.Goals as goal
 

@@ -1,5 +1,4 @@
 -- `math::floor` meets its contract. Assumes nothing.
-use borrow.Author.Rules.{rules}
 use Rattle.math.proofs.Floats.{floor_floats}
 use Rattle.math.proofs.floor.Goals as goal
 

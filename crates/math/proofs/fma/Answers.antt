@@ -1,5 +1,4 @@
 -- `math::fma` meets its contract. Assumes nothing.
-use borrow.Author.Rules.{rules}
 use Rattle.math.proofs.fma.Goals as goal
 
 pub returns : goal.returns

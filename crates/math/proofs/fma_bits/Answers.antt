@@ -1,5 +1,4 @@
 -- `math::fma_bits` meets its contract. Assumes nothing.
-use borrow.Author.Rules.{rules}
 use Rattle.rounding.specs.declared.Direction.TheVariants.{Nearest}
 use Rattle.math.proofs.Floats.{fused_read}
 use Rattle.math.proofs.fma_bits.Goals as goal

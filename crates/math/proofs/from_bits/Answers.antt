@@ -1,5 +1,4 @@
 -- `math::from_bits` meets its contract. Assumes nothing.
-use borrow.Author.Rules.{rules}
 use Rattle.math.proofs.Floats.{pattern_number, pattern_nan}
 use Rattle.math.proofs.from_bits.Goals as goal
 

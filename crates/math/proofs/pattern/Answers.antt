@@ -1,5 +1,4 @@
 -- `math::pattern` meets its contract. Assumes nothing.
-use borrow.Author.Rules.{rules}
 use Rattle.math.proofs.Floats.{back}
 use Rattle.math.proofs.pattern.Goals as goal
 

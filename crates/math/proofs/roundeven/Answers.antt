@@ -1,5 +1,4 @@
 -- `math::roundeven` meets its contract: Shift has the short way. Assumes nothing.
-use borrow.Author.Rules.{rules}
 use lib.Ieee.{of_bits}
 use Rattle.math.proofs.Floats.{round_floats}
 use Rattle.math.proofs.Shift.{nearest_whole}

@@ -1,5 +1,4 @@
 -- `math::to_bits` meets its contract. Assumes nothing.
-use borrow.Author.Rules.{rules}
 use Rattle.math.proofs.Floats.{no_nan, a_nan}
 use Rattle.math.proofs.to_bits.Goals as goal
 

@@ -5,7 +5,6 @@ use Prim.Native.Nat.{ℕ, ◌+◌, ◌-◌, ◌≤◌}
 use lib.Arith.{digits_lt}
 use lib.Dec.{ltb, leb}
 use lib.Pow.{add-lt-pow}
-use borrow.Author.Rules.{rules}
 use Rattle.wide.specs.declared.Wide.{Wide}
 use Rattle.wide.specs.Words.{value}
 use Rattle.operands.specs.Machine.{RoundsSum}

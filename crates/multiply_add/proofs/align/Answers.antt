@@ -4,7 +4,6 @@ use mathlib.Core.Bool.{Bool, true, false, cond}
 use Prim.Native.Nat.{ℕ, ◌-◌, ◌^◌, ◌≤◌}
 use lib.Dec.{ltb}
 use lib.Ieee.{binary64, to_bits}
-use borrow.Author.Rules.{rules}
 use Rattle.wide.specs.declared.Wide.{Wide}
 use Rattle.wide.specs.Words.{value, jammed}
 use Rattle.operands.specs.Machine.{Ready, Addends}

@@ -1,6 +1,5 @@
 -- `multiply_add::fused` meets its contract. Assumes nothing.
 use mathlib.Core.Path.{sym, ap, ◌∙◌}
-use borrow.Author.Rules.{rules}
 use Rattle.rounding.specs.declared.Named.{Named}
 use Rattle.reply.specs.declared.Reply.TheVariants.{Bits}
 use Rattle.multiply_add.specs.Fused.{fused_in}

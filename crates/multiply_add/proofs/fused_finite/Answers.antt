@@ -3,7 +3,6 @@ use mathlib.Core.Path.{◌≡◌, sym, ap, ◌∙◌}
 use mathlib.Core.Bool.{Bool}
 use Prim.Native.Nat.{ℕ, ◌*◌, ◌^◌, ◌≤◌, ◌<◌}
 use lib.Ieee.{Float, binary64, of_bits, to_bits}
-use borrow.Author.Rules.{rules}
 use native.Mathlib.Omega.{arith}
 use Rattle.ieee754.specs.Operations.{product, plus, exactly}
 use Rattle.operands.specs.Machine.{sign_of, magnitude, Regular}

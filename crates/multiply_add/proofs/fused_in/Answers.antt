@@ -3,7 +3,6 @@ use mathlib.Core.Path.{sym, ◌∙◌}
 use Prim.Native.Nat.{ℕ, ◌≤◌}
 use native.Mathlib.Nat.{le_of_lt}
 use mathlib.Core.Bool.{true≢false}
-use borrow.Author.Rules.{rules}
 use Rattle.ieee754.proofs.Nans.{fused_numbers}
 use Rattle.operands.specs.Machine.{magnitude, Regular}
 use Rattle.multiply_add.proofs.fused_in.Goals as goal

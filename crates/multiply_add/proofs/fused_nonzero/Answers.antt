@@ -3,7 +3,6 @@ use mathlib.Core.Path.{sym, ap, ap₂, ◌∙◌}
 use mathlib.Core.Bool.{Bool}
 use Prim.Native.Nat.{ℕ, ◌*◌, ◌^◌}
 use lib.Ieee.{binary64, of_bits, to_bits}
-use borrow.Author.Rules.{rules}
 use Rattle.ieee754.specs.Operations.{sum_to}
 use Rattle.operands.specs.Machine.{sign_of}
 use Rattle.multiply_add.proofs.Products.{fused_is, exact_sum, product_parts, addend_parts}

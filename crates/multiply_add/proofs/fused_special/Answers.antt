@@ -1,6 +1,5 @@
 -- `multiply_add::fused_special` meets its contract. Assumes nothing.
 use mathlib.Core.Path.{◌≡◌, ◌∙◌}
-use borrow.Author.Rules.{rules}
 use Rattle.ieee754.specs.Operations.{fused_bits}
 use Rattle.ieee754.proofs.Nans.{nan_first, number_first, fused_by, fused_numbers}
 use Rattle.operands.specs.Machine.{fused_floats}

@@ -1,7 +1,6 @@
 -- `multiply_add::product_parts` meets its contract. Assumes nothing.
 use mathlib.Core.Path.{◌≡◌, sym, ap, ◌∙◌}
 use Prim.Native.Nat.{ℕ, ◌+◌, ◌*◌, ◌^◌}
-use borrow.Author.Rules.{rules}
 use Rattle.wide.specs.Words.{value}
 use Rattle.operands.proofs.Reading.{stands_just}
 use Rattle.multiply_add.proofs.Sums.{ready_pos}

@@ -1,7 +1,6 @@
 -- `multiply_add::round_usual` meets its contract. Assumes nothing.
 use mathlib.Core.Path.{◌≡◌}
 use Prim.Native.Nat.{ℕ, ◌+◌, ◌*◌, ◌^◌}
-use borrow.Author.Rules.{rules}
 use native.Mathlib.Omega.{arith}
 use Rattle.multiply_add.proofs.round_usual.Goals as goal
 

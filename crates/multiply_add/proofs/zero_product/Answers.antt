@@ -1,6 +1,5 @@
 -- `multiply_add::zero_product` meets its contract. Assumes nothing.
 use mathlib.Core.Path.{sym, ap, ◌∙◌}
-use borrow.Author.Rules.{rules}
 use Rattle.rounding.specs.Machine.{sign_bit}
 use Rattle.multiply_add.proofs.Sums.{beq_true, beq_false}
 use Rattle.multiply_add.proofs.Special.{zero_like, zero_other, zero_zero}

@@ -7,7 +7,6 @@ use Rattle.sheets.specs.declared.Line.{Line}
 use Rattle.sheets.specs.declared.Line.TheVariants.{Sum}
 use Rattle.sheets.proofs.Lines.{names_earlier}
 use Rattle.sheet_values.specs.Values.{value_from}
-use borrow.Author.Rules.{rules}
 use Rattle.sheet_values.proofs.value_of.Goals as goal
 
 named : (i first second : ℕ) {line : Line} → line ≡ Sum first second → refusal_of i line ≡ 0 → i ≤ 56 → (first < 56) × (second < 56)

@@ -1,19 +1,12 @@
 -- `sheet_values::write_values` meets its contract: the values so far stand in the array, and at the front of the buffer. Assumes
 -- nothing.
-use Prim.Native.Nat.{ℕ, ◌+◌, ◌*◌, ◌-◌, ◌≤◌, ◌<◌}
-use mathlib.Core.Path.{◌≡◌, refl, ap, ◌∙◌}
-use mathlib.Core.List.{List, ◌++◌}
-use native.Mathlib.Omega.{arith}
-use lib.ListN.{length, take, drop, length-take, length-drop, length-set}
+use Prim.Native.Nat.{◌*◌, ◌-◌, ◌≤◌}
+use mathlib.Core.Path.{◌≡◌}
+use mathlib.Core.List.{◌++◌}
+use lib.ListN.{length, take, drop}
 use Rattle.words.specs.Bytes.{words_of}
-use Rattle.words.proofs.Words.{one_more-word}
-use Rattle.words.proofs.Words as written
-use Rattle.sheets.specs.Sheet.{line_at, line_of, refusal_of, first_refusal}
-use Rattle.sheets.specs.declared.Line.{Line}
-use Rattle.sheets.proofs.FirstBad.{all_good_lem}
-use Rattle.sheet_values.specs.Values.{value_from, values_of, value_of}
+use Rattle.sheet_values.specs.Values.{values_of, value_of}
 use Rattle.sheet_values.specs.Lines.{Words}
-use Rattle.sheet_values.proofs.Values.{values_more, words_more, value_of_lem}
 use Rattle.sheet_values.proofs.write_values.Given as goal
 
 abbrev pub invariant-loop-i : goal.invariant-loop-i

@@ -5,7 +5,6 @@ use mathlib.Core.Bool.{false, true≢false}
 use lib.Ieee.{Float, nan, inf, fin, binary64, ne, is_nan, to_bits, add}
 use Rattle.sums.specs.Sum.{sum_bits, float_sum}
 use Rattle.sums.proofs.FloatSum.{sum_numbers}
-use borrow.Author.Rules.{rules}
 use Rattle.sums.proofs.sum.Goals as goal
 
 -- what equals itself is no NaN
