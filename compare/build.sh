@@ -1,5 +1,5 @@
 #!/bin/sh
-# Builds target/compare/compare. Run in the repository's root, after `make archive` and `rt staticlib fast_fused_c`:
+# Builds target/compare/compare. Run in the repository's root, after `make archive target/staticlib/libfast_fused_c.a`:
 #     compare/build.sh [SOURCE]
 # SOURCE is the folder of the Rust source, ../shared/docs/src where none is given. Where it is there, the Rust exp2m1 is built
 # from it unchanged. musl's software fma is linked under another name where Debian's package musl-dev is installed, and MPFR where

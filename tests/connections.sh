@@ -20,7 +20,7 @@ if ! command -v socat > /dev/null; then
     exit 2
 fi
 if ! [ -x "$PROGRAM" ]; then
-    echo "$PROGRAM is not there: 'rt check weigher' builds the weigher" >&2
+    echo "$PROGRAM is not there: 'make program' builds the weigher" >&2
     exit 2
 fi
 

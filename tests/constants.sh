@@ -1,6 +1,6 @@
 #!/bin/sh
 # Compares the hexadecimal constants of the Rust's exp2m1.rs, in order, with the bits in specs/ and in the code, and with the text beside those
-# in the code. constants.txt says where each of them stands. The floats are read by target/bin/constants (`rt check constants` builds it), and
+# in the code. constants.txt says where each of them stands. The floats are read by target/bin/constants (`make program` builds it), and
 # once more here.
 #     tests/constants.sh [SOURCE]
 # SOURCE is the folder of the Rust source, ../shared/docs/src where none is given. Where it is not there, nothing is compared.

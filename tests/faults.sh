@@ -23,7 +23,7 @@ shift
 cd "$(dirname "$0")/.."
 export PROGRAM="${PROGRAM:-$PWD/target/bin/weigher}"
 if ! [ -x "$PROGRAM" ]; then
-    echo "$PROGRAM is not there: 'rt check weigher' builds the weigher" >&2
+    echo "$PROGRAM is not there: 'make program' builds the weigher" >&2
     exit 2
 fi
 if [ $# -eq 0 ]; then

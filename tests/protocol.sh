@@ -1,7 +1,7 @@
 #!/bin/sh
 # Replays the examples of docs/PROTOCOL.md through target/bin/weigher and target/bin/constants, which must answer as the page says; and through
 # the service and the reader in compare/, where it was built with the Rust source. Run in the repository's root, after
-# `rt check weigher constants`.
+# `make program`.
 set -eu
 page=docs/PROTOCOL.md
 program=target/bin/weigher

@@ -7,7 +7,7 @@ use std::thread;
 use crate::random::Random;
 use crate::{frames, rust, service};
 
-/// `rt check weigher` builds it.
+/// `make program` builds it.
 pub const PROGRAM: &str = "target/bin/weigher";
 
 /// Frames of one stream.
