@@ -4,7 +4,7 @@
 #![tactic(auto)]
 
 ghost use Rattle.std.specs.Prelude.{◌≡◌};
-ghost use Rattle.reply.specs.Told.{number, result};
+ghost use Rattle.reply.specs.Told.{number, content};
 ghost use Rattle.exp2m1.specs.Score.{score_bits};
 ghost use Rattle.score_with.specs.Score.{scored_with};
 
@@ -13,7 +13,7 @@ use exceptions::Entry;
 // 2^x - 1, the score of the weight x.
 #[unsafe(no_mangle)]
 pub extern "C" fn weigher_score(x: u64) -> u64
-    ensures* { λ r. ⌜ r ≡ score_bits x ⌝ }
+    ensures { result ≡ score_bits x }
 {
     exp2m1::score(x)
 }
@@ -21,7 +21,8 @@ pub extern "C" fn weigher_score(x: u64) -> u64
 // Scores the weight x with a lent list of exceptional cases. Where the list is refused, the result keeps its content.
 #[unsafe(no_mangle)]
 pub extern "C" fn weigher_score_with(list: &[Entry], x: u64, out: &mut u64) -> u8
-    ensures* { λ r. ⌜ (r ≡ number (scored_with list.now x)) × (out.new ≡ result (scored_with list.now x) out.old) ⌝ }
+    ensures number { result ≡ number (scored_with list.now x) }
+    ensures content { out.new ≡ content (scored_with list.now x) out.old }
 {
     reply::tell(score_with::score_with(list, x), out)
 }

@@ -1,8 +1,4 @@
--- Steps of the walks over a lent slice; where the list decides, and the built-in table, lent; and replies computed.
-pub mod Answers
-pub mod Locals
-mod Tests
-mod Lent
+-- Where the list decides, and the built-in table, lent; and replies computed.
 pub mod BuiltIn
 pub mod Listed
 mod Examples

@@ -14,8 +14,7 @@ use Rattle.exp2m1.specs.Score.{score_with}
 use Rattle.score_with.specs.Score.{scored_with}
 use borrow.Author.Rules.{rules}
 use borrow.Author.Tests.{ne_eqb}
-use Rattle.score_with.proofs.reply_with.Statement.{statement}
-use Rattle.score_with.proofs.reply_with.Tie as tie
+use Rattle.score_with.proofs.reply_with.Goals as goal
 
 refused : (x : ℕ) {n : ℕ} {f : Found} → eqb n 0 ≡ false → (list : List Entry) → n ≡ refusal_of list → (refusal_of list ≡ 0 → f ≡ find list (bits x)) → Refused n ≡ scored_with list x
 unfolding scored_with
@@ -29,11 +28,8 @@ unfolding scored_with
 scored x z s list e h =
     ap Bits (s list (h (sym e ∙ z))) ∙ ap (λ (k : ℕ). cond (eqb k 0) (Bits (score_with list x)) (Refused k)) (sym z ∙ e)
 
-returns : tie.Need-returns
-returns c = refused _ (ne_eqb _ _ c.if1.true)
+pub returns-then-c-ne0 : goal.returns-then-c-ne0
+returns-then-c-ne0 c = refused _ (ne_eqb _ _ c.if-c-ne0.true)
 
-returns-2 : tie.Need-returns-2
-returns-2 c = scored _ c.before.if1.false c.score-found.ensures
-
-pub reply-with-spec : {M : Type 1} → statement M
-reply-with-spec = tie.close (tie.spec returns (λ c κs. search rules) returns-2)
+pub returns : goal.returns
+returns c = scored _ c.if-c-ne0.false c.score_found.ensures
