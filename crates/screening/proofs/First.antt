@@ -4,9 +4,9 @@ use mathlib.Core.Path.{◌≡◌, refl, sym, ap, ◌∙◌}
 use mathlib.Core.List.{List}
 use mathlib.Core.Bool.{Bool, true, false, cond}
 use native.Mathlib.Omega.{arith}
-use borrow.Author.Count.{below_more}
 use lib.ListN.{length}
-use Rattle.screening.specs.Screening.{bad_weights, is_nan, weight_at, first_nan, screened, NoneBefore, Screens, Settles}
+use Rattle.screening.proofs.Found.{found}
+use Rattle.screening.specs.Screening.{bad_weights, first_nan, screened, NoneBefore, Screens, Settles}
 use Rattle.screening.specs.declared.Screened.{Screened}
 use Rattle.screening.specs.declared.Screened.TheVariants.{Refused, Clean, Missing}
 
@@ -16,13 +16,6 @@ passed p zero n e none = ap (first_nan p 0) {x = length p / 8} {y = n} (omega ar
 passed p (suc i) n e none =
     passed p i (suc n) (omega arith) (λ k h. none k (omega arith))
     ∙ ap (λ (b : Bool). cond b (Missing i) (first_nan p (suc i) n)) (none i (omega arith))
-
-found : (p : List ℕ) (i n : ℕ) → bad_weights p ≡ false → i + n ≡ length p / 8 → NoneBefore p i → Screens p (first_nan p i n)
-found p i zero good e none = (good, λ k h. none k (omega arith))
-found p i (suc n) good e none = held (is_nan (weight_at p i)) refl (λ h. found p (suc i) n good (omega arith) (λ k l. below_more _ _ none h k (omega arith))) where
-  held : (b : Bool) → is_nan (weight_at p i) ≡ b → (is_nan (weight_at p i) ≡ false → Screens p (first_nan p (suc i) n)) → Screens p (cond b (Missing i) (first_nan p (suc i) n))
-  held true h next = (good, omega arith, h, none)
-  held false h next = next h
 
 -- refusal 5, or a search from the front
 abbrev reply_for : List ℕ → Bool → Screened

@@ -1,4 +1,5 @@
 -- The computed reply and the documents' words.
+mod Found
 mod First
 -- Worked examples of the definitions.
 mod Examples
