@@ -1,0 +1,102 @@
+-- `delivery::take_frames` meets its contract: each turn is one take of the book, and where it answered a run of whole frames. Assumes nothing.
+use native.Mathlib.Omega.{arith}
+use Rattle.service.specs.Service.{book_of}
+use Rattle.delivery.proofs.Takes.{going, going_empty, going_full, one_take, out_length}
+use Rattle.delivery.proofs.Runs.{going_run}
+use Rattle.delivery.proofs.take_frames.Goals as goal
+
+pub loop-used-init : goal.loop-used-init
+loop-used-init c =
+    going (book_of c.args.state) c.args.piece.now c.args.answers.now c.args.state c.requires.0 c.requires.1
+
+pub overflow_sub-answers : goal.overflow_sub-answers
+overflow_sub-answers c = omega (arith, out_length c.loop-used.invariant)
+
+pub shape_of-answers-then-answers-len-lt-ANSWER_ROOM : goal.shape_of-answers-then-answers-len-lt-ANSWER_ROOM
+shape_of-answers-then-answers-len-lt-ANSWER_ROOM c = out_length c.loop-used.invariant
+
+pub returns-then-answers-len-lt-ANSWER_ROOM : goal.returns-then-answers-len-lt-ANSWER_ROOM
+returns-then-answers-len-lt-ANSWER_ROOM c = going_full c.loop-used.invariant c.if-answers-len-lt-ANSWER_ROOM.true
+
+pub slice_bounds-take-count : goal.slice_bounds-take-count
+slice_bounds-take-count c = omega arith
+
+pub slice_bounds-take-start : goal.slice_bounds-take-start
+slice_bounds-take-start c = omega arith
+
+pub slice_bounds-take-end : goal.slice_bounds-take-end
+slice_bounds-take-end c = omega arith
+
+pub slice_bounds-take-count-in-loop-used : goal.slice_bounds-take-count-in-loop-used
+slice_bounds-take-count-in-loop-used c = omega (arith, out_length c.loop-used.invariant)
+
+-- ---- after take
+
+pub overflow_add-used : goal.overflow_add-used
+overflow_add-used c =
+    let t = one_take c.loop-used.invariant c.loop-used-test.true c.if-answers-len-lt-ANSWER_ROOM.false c.take-taken.result _ c.take-taken.ensures.0 c.take-taken.ensures.1 in
+    omega (arith, c.well_formed.1.0.0, t.going.within)
+
+pub overflow_add-len : goal.overflow_add-len
+overflow_add-len c =
+    let t = one_take c.loop-used.invariant c.loop-used-test.true c.if-answers-len-lt-ANSWER_ROOM.false c.take-taken.result _ c.take-taken.ensures.0 c.take-taken.ensures.1 in
+    omega (arith, c.well_formed.1.1.0.0, t.going.room)
+
+pub loop-used-smaller : goal.loop-used-smaller
+loop-used-smaller c =
+    let t = one_take c.loop-used.invariant c.loop-used-test.true c.if-answers-len-lt-ANSWER_ROOM.false c.take-taken.result _ c.take-taken.ensures.0 c.take-taken.ensures.1 in
+    omega (arith, t.some)
+
+pub loop-used-preserved : goal.loop-used-preserved
+loop-used-preserved c =
+    (one_take c.loop-used.invariant c.loop-used-test.true c.if-answers-len-lt-ANSWER_ROOM.false c.take-taken.result _ c.take-taken.ensures.0 c.take-taken.ensures.1).going
+
+-- ---- the run behind it
+
+pub slice_bounds-answer_run-count : goal.slice_bounds-answer_run-count
+slice_bounds-answer_run-count c =
+    let t = one_take c.loop-used.invariant c.loop-used-test.true c.if-answers-len-lt-ANSWER_ROOM.false c.take-taken.result _ c.take-taken.ensures.0 c.take-taken.ensures.1 in
+    omega (arith, t.going.within)
+
+pub slice_bounds-answer_run-start : goal.slice_bounds-answer_run-start
+slice_bounds-answer_run-start c =
+    let t = one_take c.loop-used.invariant c.loop-used-test.true c.if-answers-len-lt-ANSWER_ROOM.false c.take-taken.result _ c.take-taken.ensures.0 c.take-taken.ensures.1 in
+    omega (arith, t.going.within)
+
+pub slice_bounds-answer_run-count-then-used-piece : goal.slice_bounds-answer_run-count-then-used-piece
+slice_bounds-answer_run-count-then-used-piece c =
+    let t = one_take c.loop-used.invariant c.loop-used-test.true c.if-answers-len-lt-ANSWER_ROOM.false c.take-taken.result _ c.take-taken.ensures.0 c.take-taken.ensures.1 in
+    omega (arith, t.going.room, out_length t.going)
+
+pub slice_bounds-answer_run-start-then-used-piece : goal.slice_bounds-answer_run-start-then-used-piece
+slice_bounds-answer_run-start-then-used-piece c =
+    let t = one_take c.loop-used.invariant c.loop-used-test.true c.if-answers-len-lt-ANSWER_ROOM.false c.take-taken.result _ c.take-taken.ensures.0 c.take-taken.ensures.1 in
+    omega (arith, t.going.room, out_length t.going)
+
+pub overflow_add-used-then-used-piece : goal.overflow_add-used-then-used-piece
+overflow_add-used-then-used-piece c =
+    let t = one_take c.loop-used.invariant c.loop-used-test.true c.if-answers-len-lt-ANSWER_ROOM.false c.take-taken.result _ c.take-taken.ensures.0 c.take-taken.ensures.1 in
+    let r = going_run t.going (t.no_frame c.if-taken-gt0.true) c.answer_run-run.result _ c.answer_run-run.ensures c.between-state.ensures in
+    omega (arith, c.well_formed.1.0.0, r.within)
+
+pub loop-used-preserved-then-used-piece : goal.loop-used-preserved-then-used-piece
+loop-used-preserved-then-used-piece c =
+    let t = one_take c.loop-used.invariant c.loop-used-test.true c.if-answers-len-lt-ANSWER_ROOM.false c.take-taken.result _ c.take-taken.ensures.0 c.take-taken.ensures.1 in
+    going_run t.going (t.no_frame c.if-taken-gt0.true) c.answer_run-run.result _ c.answer_run-run.ensures c.between-state.ensures
+
+pub overflow_add-len-then-used-piece : goal.overflow_add-len-then-used-piece
+overflow_add-len-then-used-piece c =
+    let t = one_take c.loop-used.invariant c.loop-used-test.true c.if-answers-len-lt-ANSWER_ROOM.false c.take-taken.result _ c.take-taken.ensures.0 c.take-taken.ensures.1 in
+    let r = going_run t.going (t.no_frame c.if-taken-gt0.true) c.answer_run-run.result _ c.answer_run-run.ensures c.between-state.ensures in
+    omega (arith, c.well_formed.1.1.0.0, r.room)
+
+pub loop-used-smaller-then-used-piece : goal.loop-used-smaller-then-used-piece
+loop-used-smaller-then-used-piece c =
+    let t = one_take c.loop-used.invariant c.loop-used-test.true c.if-answers-len-lt-ANSWER_ROOM.false c.take-taken.result _ c.take-taken.ensures.0 c.take-taken.ensures.1 in
+    omega (arith, c.loop-used-test.true, t.some)
+
+pub shape_of-answers : goal.shape_of-answers
+shape_of-answers c = out_length c.loop-used.invariant
+
+pub returns : goal.returns
+returns c = going_empty c.loop-used.invariant c.loop-used-test.false
