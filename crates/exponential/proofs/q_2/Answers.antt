@@ -7,8 +7,7 @@ use Rattle.pair.specs.Pair.{pair}
 use Rattle.double_double.specs.Pairs.{fma, fast_two_sum, fast_sum, a_mul, d_mul}
 use Rattle.exponential.specs.Constants.{Q2}
 use Rattle.exponential.specs.Exponential.{q2}
-use Rattle.exponential.proofs.q_2.Statement.{statement}
-use Rattle.exponential.proofs.q_2.Tie as tie
+use Rattle.exponential.proofs.q_2.Goals as goal
 
 follows : (z : Pair) {c6 c5 c4 : Float} {p t d3 p2 d2 p1 d1 r : Pair}
     → c6 ≡ fma (Q2 8) z.hi (Q2 7)
@@ -26,33 +25,7 @@ follows : (z : Pair) {c6 c5 c4 : Float} {p t d3 p2 d2 p1 d1 r : Pair}
 unfolding q2
 follows z h1 h2 h3 h4 h5 h6 h7 h8 h9 h10 h11 = cc
 
-returns : tie.Need-returns
+pub returns : goal.returns
 returns c =
-    let c1 = c.before in
-    let c2 = c1.before in
-    let c3 = c2.before in
-    let c4 = c3.before in
-    let c5 = c4.before in
-    let c8 = c5.before.before.before in
-    let c9 = c8.before in
-    let c10 = c9.before in
-    let c11 = c10.before in
-    follows _ c11.before.fma.ensures c11.fma2.ensures c10.fma3.ensures c9.a-mul.ensures.0 c8.fast-two-sum.ensures.0 c5.d-mul.ensures c4.fast_sum.ensures
-    c3.d-mul2.ensures c2.fast-sum2.ensures c1.d-mul3.ensures c.fast-sum3.ensures
-
-pub q-2-spec : {M : Type 1} → statement M
-q-2-spec =
-    tie.close
-    (tie.spec
-    (λ c κs. search rules)
-    (λ c κs. search rules)
-    (λ c κs. search rules)
-    (λ c κs. search rules)
-    (λ c κs. search rules)
-    (λ c κs. search rules)
-    (λ c κs. search rules)
-    (λ c κs. search rules)
-    (λ c κs. search rules)
-    (λ c κs. search rules)
-    (λ c κs. search rules)
-    returns)
+    follows _ c.fma-q.ensures c.fma-q-2.ensures c.fma-q-3.ensures c.a_mul-p.ensures.value c.fast_two_sum-t.ensures.value c.d_mul-p.ensures c.fast_sum-p.ensures
+    c.d_mul-p-2.ensures c.fast_sum-p-2.ensures c.d_mul-p-3.ensures c.fast_sum.ensures

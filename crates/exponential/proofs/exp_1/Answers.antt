@@ -12,8 +12,7 @@ use Rattle.exponential.specs.Constants.{INVLOG2, LOG2H, LOG2L}
 use Rattle.exponential.specs.Exponential.{q1, times_power, exp1}
 use Rattle.exponential.specs.Range.{InLogRange}
 use Rattle.exponential.proofs.Range.{Casts, arrives, index_arrives, exp_1_casts}
-use Rattle.exponential.proofs.exp_1.Statement.{statement}
-use Rattle.exponential.proofs.exp_1.Tie as tie
+use Rattle.exponential.proofs.exp_1.Goals as goal
 
 follows : (x : Pair) {k : Float} {kp y q r : Pair} {z : ℤ}
     → k ≡ round_to_integral Nearest (mul binary64 x.hi INVLOG2)
@@ -27,35 +26,18 @@ unfolding exp1
 follows x h1 h2 h3 h4 h5 h6 = cc
 
 -- k is what it should be, so its cast is
+
 casts : {k y : Float} → k ≡ round_to_integral Nearest (mul binary64 y INVLOG2) → InLogRange y → Casts k
 casts {k} {y} e r = subst (λ (v : Float). Casts v) (sym e) (exp_1_casts y r)
 
-float-to-int-times-power : tie.Need-float-to-int-times-power
-float-to-int-times-power c =
-    let c8 = c.before.before.before.before.before.before.before.before in
-    (casts c8.roundeven.ensures c8.before.before.requires).fits
+pub float_to_int-k : goal.float_to_int-k
+float_to_int-k c =
+    (casts c.roundeven-k.ensures c.requires).fits
 
-times-power-requires : tie.Need-times-power-requires
-times-power-requires c κs =
-    let c8 = c.before.before.before.before.before.before.before.before in
-    index_arrives _ (casts c8.roundeven.ensures c8.before.before.requires).index
+pub times_power-requires : goal.times_power-requires
+times_power-requires c =
+    index_arrives _ (casts c.roundeven-k.ensures c.requires).index
 
-returns : tie.Need-returns
+pub returns : goal.returns
 returns c =
-    let c2 = c.before.before in
-    let c5 = c2.before.before.before in
-    let c8 = c5.before.before.before in
-    let c9 = c8.before in
-    follows _ c9.roundeven.ensures c8.s-mul.ensures c5.fast-two-sum.ensures.0 c2.q_1.ensures (arrives _) c.times_power.ensures
-
-pub exp-1-spec : {M : Type 1} → statement M
-exp-1-spec =
-    tie.close
-    (tie.spec
-    (λ c κs. search rules)
-    (λ c κs. search rules)
-    (λ c κs. search rules)
-    (λ c κs. search rules)
-    float-to-int-times-power
-    times-power-requires
-    returns)
+    follows _ c.roundeven-k.ensures c.s_mul-kp.ensures c.fast_two_sum-y.ensures.value c.q_1-q.ensures (arrives _) c.times_power.ensures
