@@ -196,7 +196,7 @@ state_at count hi lo = record { frame = record { count = count; hi = hi; lo = lo
 
 pub total_refused : (piece : List ℕ) → take_of (state_with (state_at 0 0 0).frame (counting 2 3 6)) piece room ≡ untouched 7 (state_with (state_at 0 0 0).frame (counting 2 3 6)) room
 unfolding stopped
-total_refused piece = counts.wrongTotal (state_with (state_at 0 0 0).frame (counting 2 3 6)) (Take piece room) refl (λ e. omega arith)
+total_refused piece = counts.wrong_total (state_with (state_at 0 0 0).frame (counting 2 3 6)) (Take piece room) refl (λ e. omega arith)
 
 pub numbers_aside : (close_of (state_with (state_at 2 0 0).frame (counting 2 3 5)) room).number ≡ 7
 unfolding stopped close_of is_good is_left is_sum places_of kept
@@ -208,7 +208,7 @@ counted_to n = record { held = 0 ∷ []; memory = record { accepted = n; refused
 
 pub past_the_end : (cs : List Call) → book_replies (counted_to most) cs ≡ book_replies (counted_to 36893488147419103232) cs
 unfolding whole stopped
-past_the_end cs = demand_1.sameOnward (counted_to most) (counted_to 36893488147419103232) cs refl refl refl
+past_the_end cs = demand_1.same_onward (counted_to most) (counted_to 36893488147419103232) cs refl refl refl
 
 -- ---- demand 1
 
@@ -226,7 +226,7 @@ early_unreached b w e = go b.held (ap (λ (s : State). s.frame.count) e) (ap (λ
 
 pub early_refused : (piece : List ℕ) → take_of (state_at 1 0 1) piece room ≡ untouched 7 (state_at 1 0 1) room
 unfolding places_of
-early_refused piece = demand_1.takeRefuses (state_at 1 0 1) piece room refl small early_unreached refl
+early_refused piece = demand_1.take_refuses (state_at 1 0 1) piece room refl small early_unreached refl
 
 -- a whole frame
 whole_unreached : Unreached (state_at 2 0 0)
@@ -239,7 +239,7 @@ whole_unreached b w e =
 
 pub whole_refused : close_of (state_at 2 0 0) room ≡ untouched 7 (state_at 2 0 0) room
 unfolding places_of
-whole_refused = demand_1.closeRefuses (state_at 2 0 0) room refl small whole_unreached refl
+whole_refused = demand_1.close_refuses (state_at 2 0 0) room refl small whole_unreached refl
 
 -- the first length byte has come, and the second ends a frame
 pub second_byte : take_of (state_at 1 0 0) (0 ∷ 5 ∷ []) room ≡ record { used = 1; len = 4; number = 1; state = state_with fresh_state.frame (counting 0 1 1); buffer = refusal_frame 1 ++ drop 4 room }
