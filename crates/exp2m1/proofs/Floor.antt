@@ -37,6 +37,8 @@ whole_of-exact d s n u U z = whole_at_lem d s U at ∙ whole_exact d s (n / u)
 
 bounded_finite : (d : Direction) (f : Format) (x : Float) → T (finite x) → bounded d f x ≡ x
 bounded_finite d f (fin s m e) t = refl
+bounded_finite d f nan t = elim t [ ]
+bounded_finite d f (inf _) t = elim t [ ]
 
 divides : (f : Format) (n : ℕ) → n < 2 ^ prec f → n * 2 ^ low f % (1 * 2 ^ (size (n * 2 ^ low f / 1) - prec f)) ≡ 0
 divides f n h =
@@ -64,6 +66,8 @@ cross a k d e n D h v = eq_of_mul-eq-mul_right d D (a * 1) (n * e) (ap (λ (z : 
 equal_value : (s : Bool) (m : ℕ) (e : ℤ) (i : Float) (n : ℕ) → HasValue i s n 1 → T (eq (fin s m e) i) → HasValue (fin s m e) s n 1
 unfolding eq
 equal_value s m e (fin t k d) n v h = (refl, cross (m * up e) (k * up d) (down d) (down e) n (down_pos d) (eqb→eq _ _ (and_l (eqb (m * up e * down d) (k * up d * down e)) _ h)) v.1)
+equal_value s m e nan n v h = elim v [ ]
+equal_value s m e (inf _) n v h = elim v [ ]
 
 -- ---- above zero
 quotient_lt : (n d k : ℕ) → 0 < d → n ≤ k * d → n / d < suc k

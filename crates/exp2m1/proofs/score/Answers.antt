@@ -4,7 +4,7 @@ use mathlib.Core.Bool.{true, false, true≢false}
 use mathlib.Core.List.{[]}
 use mathlib.Core.Logic.{⊎_elim}
 use Prim.Native.Nat.{ℕ, ◌%◌, ◌^◌, ◌≤◌, ◌<◌}
-use lib.Ieee.{Float, binary64, ne, of_bits, toBits}
+use lib.Ieee.{Float, binary64, ne, of_bits, to_bits}
 use Rattle.wide.proofs.Nat.{le_or_gt}
 use Rattle.ieee754.specs.Operations.{quiet}
 use Rattle.ieee754.proofs.Nans.{nan_first, number_last}
@@ -14,46 +14,33 @@ use Rattle.pair.specs.Pair.{bits}
 use Rattle.exp2m1.specs.Score.{steps, score_bits}
 use Rattle.exp2m1.proofs.Steps.{step_1, same_steps}
 use borrow.Author.Rules.{rules}
-use Rattle.exp2m1.proofs.score.Statement.{statement}
-use Rattle.exp2m1.proofs.score.Tie as tie
+use Rattle.exp2m1.proofs.score.Goals as goal
+use Rattle.exp2m1.proofs.score.Goals.{then-y+else-x-gt-INFINITY, else-y}
 
-by_pattern : (ux : ℕ) {x y : Float} → ux < 2 ^ 64 → x ≡ of_bits binary64 ux → y ≡ steps (entries First) (toBits binary64 x) x → y ≡ steps (entries First) ux (bits ux)
-by_pattern ux l hx hy = hy ∙ ap (λ (x : Float). steps (entries First) (toBits binary64 x) x) hx ∙ same_steps (entries First) ux l
+by_pattern : (ux : ℕ) {x y : Float} → ux < 2 ^ 64 → x ≡ of_bits binary64 ux → y ≡ steps (entries First) (to_bits binary64 x) x → y ≡ steps (entries First) ux (bits ux)
+by_pattern ux l hx hy = hy ∙ ap (λ (x : Float). steps (entries First) (to_bits binary64 x) x) hx ∙ same_steps (entries First) ux l
 
 of_nan : (ux : ℕ) {r : ℕ} → 0x7ff0000000000000 < ux % 2 ^ 63 → r ≡ quiet ux → r ≡ score_bits ux
 unfolding score_bits
 of_nan ux n h = h ∙ nan_first ux [] _ n
 
-follows : (ux : ℕ) {y : Float} {r : ℕ} → ux % 2 ^ 63 ≤ 0x7ff0000000000000 → y ≡ steps (entries First) ux (bits ux) → r ≡ toBits binary64 y → r ≡ score_bits ux
+follows : (ux : ℕ) {y : Float} {r : ℕ} → ux % 2 ^ 63 ≤ 0x7ff0000000000000 → y ≡ steps (entries First) ux (bits ux) → r ≡ to_bits binary64 y → r ≡ score_bits ux
 unfolding score_bits
-follows ux n hy hr = hr ∙ ap (toBits binary64) hy ∙ number_last ux _ n
+follows ux n hy hr = hr ∙ ap (to_bits binary64) hy ∙ number_last ux _ n
 
 nan_differs : ne (bits 0x7ff8000000000000) (bits 0x7ff8000000000000) ≡ true
 unfolding ne of_bits
 nan_differs = refl
 
 -- a score that is no NaN is not that of one
+
 number : (ux : ℕ) {y : Float} → y ≡ steps (entries First) ux (bits ux) → ne y y ≡ false → ux % 2 ^ 63 ≤ 0x7ff0000000000000
 number ux hy e = ⊎_elim (λ l. l) (λ h. absurd (true≢false (sym (ap (λ (y : Float). ne y y) (hy ∙ step_1 (entries First) ux (bits ux) h) ∙ nan_differs) ∙ e))) (le_or_gt (ux % 2 ^ 63) 0x7ff0000000000000)
 
-returns : tie.Need-returns
-returns c = of_nan _ c.before.if2.true c.quiet.ensures
+pub returns-then-x-gt-INFINITY : goal.returns-then-x-gt-INFINITY
+returns-then-x-gt-INFINITY c = of_nan _ c.if-x-gt-INFINITY.true c.quiet.ensures
 
-returns-2 : tie.Need-returns-2
-returns-2 c =
-    let j = c.before in
-    let e = j.before in
-    let f = e.before in
-    let y = by_pattern f.before.args.x (search rules) f.from-bits.ensures e.exp2m1.ensures in
-    follows _ (⊎_elim (λ w. w.1.left) (λ w. number _ y w.left) j.if1.branch) y c.to-bits.ensures
-
-pub score-spec : {M : Type 1} → statement M
-score-spec =
-    tie.close
-    (tie.spec
-    (λ c κs. search rules)
-    (λ c κs. search rules)
-    (λ c κs. search rules)
-    returns
-    (λ c κs. search rules)
-    returns-2)
+pub returns : goal.returns
+returns c =
+    let y = by_pattern c.args.x (search rules) c.from_bits.ensures c.exp2m1-y.ensures in
+    follows _ (elim c.if-y.branch [ then-y+else-x-gt-INFINITY w ↦ w.if-x-gt-INFINITY.false | else-y w ↦ number _ y w.if-y.false ]) y c.to_bits.ensures

@@ -5,8 +5,7 @@ use lib.Ieee.{Float, binary64, add, sub, eq}
 use Rattle.exp2m1_tiny.specs.declared.Estimate.{Estimate}
 use Rattle.exp2m1.specs.Score.{rounded}
 use borrow.Author.Rules.{rules}
-use Rattle.exp2m1.proofs.exp2m1_phases.Statement.{statement}
-use Rattle.exp2m1.proofs.exp2m1_phases.Tie as tie
+use Rattle.exp2m1.proofs.exp2m1_phases.Goals as goal
 
 abbrev left : Estimate → Float
 left e = add binary64 e.pair.hi (sub binary64 e.pair.lo e.err)
@@ -22,17 +21,8 @@ undecided : {e f : Estimate} {s r : Float} → e ≡ f → eq (left e) (right e)
 unfolding rounded
 undecided h t k = rw (← h, t, k)
 
-returns : tie.Need-returns
-returns c = decided _ c.before.before.before.before.before.before.exp2m1-fast.ensures c.if1.true
+pub returns-then-left-right : goal.returns-then-left-right
+returns-then-left-right c = decided _ c.exp2m1_fast-e.ensures c.if-left-right.true
 
-returns-2 : tie.Need-returns-2
-returns-2 c = undecided c.before.before.before.before.before.before.before.exp2m1-fast.ensures c.before.if1.false c.exp2m1-accurate.ensures
-
-pub exp2m1-phases-spec : {M : Type 1} → statement M
-exp2m1-phases-spec =
-    tie.close
-    (tie.spec
-    (λ c κs. search rules)
-    returns
-    (λ c κs. search rules)
-    returns-2)
+pub returns : goal.returns
+returns c = undecided c.exp2m1_fast-e.ensures c.if-left-right.false c.exp2m1_accurate.ensures

@@ -17,14 +17,14 @@ use Rattle.exp2m1_tiny.specs.Tiny.{estimate}
 use Rattle.exp2m1.specs.Phases.{subtract_one, exp2m1_fast}
 use Rattle.exp2m1.proofs.Patterns.{bounded_between}
 use borrow.Author.Rules.{rules}
-use Rattle.exp2m1.proofs.exp2m1_fast.Statement.{statement}
-use Rattle.exp2m1.proofs.exp2m1_fast.Tie as tie
+use Rattle.exp2m1.proofs.exp2m1_fast.Goals as goal
 
-returns : tie.Need-returns
+pub returns-then-tiny : goal.returns-then-tiny
 unfolding exp2m1_fast
-returns c = rw (c.before.if1.true, c.exp2m1-fast-tiny.ensures)
+returns-then-tiny c = rw (c.if-tiny.true, c.exp2m1_fast_tiny.ensures)
 
 -- the product's high part is x * LN2H
+
 high : (x : Float) {p : Pair} → p ≡ s_mul x (pair LN2H LN2L) → mul binary64 x LN2H ≡ p.hi
 unfolding s_mul a_mul
 high x e = ap (λ (p : Pair). p.hi) (sym e)
@@ -34,10 +34,9 @@ in_range : (x : Float) {tiny : Bool} {p : Pair} → T (fits binary64 x) → Boun
 in_range x f B t n e =
     subst (λ (y : Float). InLogRange y) (high x e) (in_log_range x (bounded_between 0x3fc0000000000000 x f B (leb-false _ _ (sym t ∙ n))))
 
-exp-1-requires : tie.Need-exp-1-requires
-exp-1-requires c κs =
-    let s = c.before.before in
-    in_range s.args.x (subst T (sym s.well-formed.0.1) tt) s.requires.0 s.requires.1 c.before.if1.false c.s-mul.ensures
+pub exp_1-p-requires : goal.exp_1-p-requires
+exp_1-p-requires c =
+    in_range c.args.x (subst T (sym c.well_formed.0.1) tt) c.requires.0 c.requires.1 c.if-tiny.false c.s_mul-p.ensures
 
 follows : (x : Float) {tiny : Bool} {p q r : Pair}
     → tiny ≡ false
@@ -48,20 +47,6 @@ follows : (x : Float) {tiny : Bool} {p q r : Pair}
 unfolding exp2m1_fast
 follows x t h1 h2 h3 = rw (t, h3, h2, h1)
 
-returns-2 : tie.Need-returns-2
-returns-2 c =
-    let c1 = c.before in
-    let c2 = c1.before in
-    let c3 = c2.before in
-    follows _ c3.before.if1.false c3.s-mul.ensures c2.exp-1.ensures c1.subtract-one.ensures
-
-pub exp2m1-fast-spec : {M : Type 1} → statement M
-exp2m1-fast-spec =
-    tie.close
-    (tie.spec
-    (λ c κs. search rules)
-    returns
-    (λ c κs. search rules)
-    exp-1-requires
-    (λ c κs. search rules)
-    returns-2)
+pub returns : goal.returns
+returns c =
+    follows _ c.if-tiny.false c.s_mul-p.ensures c.exp_1-p.ensures c.subtract_one-pair.ensures

@@ -7,8 +7,7 @@ use Rattle.exponential.specs.Constants.{LN2H, LN2L}
 use Rattle.exp2m1.specs.Constants.{two106, two_m106}
 use Rattle.exp2m1.specs.Phases.{exp2m1_scaled}
 use borrow.Author.Rules.{rules}
-use Rattle.exp2m1.proofs.exp2m1_scaled.Statement.{statement}
-use Rattle.exp2m1.proofs.exp2m1_scaled.Tie as tie
+use Rattle.exp2m1.proofs.exp2m1_scaled.Goals as goal
 
 follows : (x : Float) {p : Pair} {lo e r : Float}
     → p ≡ a_mul LN2H (mul binary64 x two106)
@@ -19,17 +18,6 @@ follows : (x : Float) {p : Pair} {lo e r : Float}
 unfolding exp2m1_scaled
 follows x h1 h2 h3 h4 = cc
 
-returns : tie.Need-returns
+pub returns : goal.returns
 returns c =
-    let c3 = c.before.before.before in
-    follows _ c3.before.a-mul.ensures.0 c3.fma.ensures c.before.fma2.ensures c.fma3.ensures
-
-pub exp2m1-scaled-spec : {M : Type 1} → statement M
-exp2m1-scaled-spec =
-    tie.close
-    (tie.spec
-    (λ c κs. search rules)
-    (λ c κs. search rules)
-    (λ c κs. search rules)
-    (λ c κs. search rules)
-    returns)
+    follows _ c.a_mul-p.ensures.value c.fma-lo.ensures c.fma.ensures c.fma-2.ensures
