@@ -15,7 +15,6 @@ use Rattle.exp2m1.specs.Score.{steps}
 use Rattle.exp2m1.proofs.Patterns.{nan_above, negative_number}
 use Rattle.exp2m1.proofs.Whole.{settled}
 use Rattle.exp2m1.proofs.Steps.{step_1, step_2, step_3, step_4, step_5, step_6, step_7}
-use borrow.Author.Rules.{rules}
 use Rattle.exp2m1.proofs.cr_exp2m1.Goals as goal
 use Rattle.exp2m1.proofs.cr_exp2m1.Goals.{Start}
 

@@ -12,7 +12,6 @@ use Rattle.exp2m1_tiny.specs.Tiny.{exp2m1_accurate_tiny}
 use Rattle.exp2m1.specs.Phases.{subtract_one, exp2m1_accurate}
 use Rattle.exp2m1.proofs.Patterns.{bounded_between}
 use Rattle.exceptions.proofs.Replies.{found, not_found}
-use borrow.Author.Rules.{rules}
 use Rattle.exp2m1.proofs.exp2m1_accurate.Goals as goal
 
 tiny : (x : Float) {u : ℕ} → u ≡ to_bits binary64 x → u % 2 ^ 63 ≤ 0x3fc0000000000000 → exp2m1_accurate_tiny x ≡ exp2m1_accurate x

@@ -16,7 +16,6 @@ use Rattle.exp2m1.specs.Range.{Bounded}
 use Rattle.exp2m1_tiny.specs.Tiny.{estimate}
 use Rattle.exp2m1.specs.Phases.{subtract_one, exp2m1_fast}
 use Rattle.exp2m1.proofs.Patterns.{bounded_between}
-use borrow.Author.Rules.{rules}
 use Rattle.exp2m1.proofs.exp2m1_fast.Goals as goal
 
 pub returns-then-tiny : goal.returns-then-tiny

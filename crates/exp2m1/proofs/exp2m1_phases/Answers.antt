@@ -4,7 +4,6 @@ use mathlib.Core.Bool.{true, false}
 use lib.Ieee.{Float, binary64, add, sub, eq}
 use Rattle.exp2m1_tiny.specs.declared.Estimate.{Estimate}
 use Rattle.exp2m1.specs.Score.{rounded}
-use borrow.Author.Rules.{rules}
 use Rattle.exp2m1.proofs.exp2m1_phases.Goals as goal
 
 abbrev left : Estimate → Float

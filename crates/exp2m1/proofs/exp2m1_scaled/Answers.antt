@@ -6,7 +6,6 @@ use Rattle.double_double.specs.Pairs.{fma, a_mul}
 use Rattle.exponential.specs.Constants.{LN2H, LN2L}
 use Rattle.exp2m1.specs.Constants.{two106, two_m106}
 use Rattle.exp2m1.specs.Phases.{exp2m1_scaled}
-use borrow.Author.Rules.{rules}
 use Rattle.exp2m1.proofs.exp2m1_scaled.Goals as goal
 
 follows : (x : Float) {p : Pair} {lo e r : Float}

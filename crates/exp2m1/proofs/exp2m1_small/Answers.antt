@@ -1,6 +1,5 @@
 -- `exp2m1::exp2m1_small` meets its contract. Assumes nothing.
 use mathlib.Core.Path.{refl}
-use borrow.Author.Rules.{rules}
 use Rattle.exceptions.proofs.Replies.{found, not_found}
 use Rattle.exp2m1.proofs.exp2m1_small.Goals as goal
 

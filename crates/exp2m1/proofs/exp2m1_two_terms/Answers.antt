@@ -1,7 +1,6 @@
 -- `exp2m1::exp2m1_two_terms` meets its contract. Assumes nothing.
 use mathlib.Core.Path.{◌≡◌}
 use lib.Ieee.{Float, binary64, add, mul}
-use borrow.Author.Rules.{rules}
 use Rattle.pair.specs.declared.Pair.{Pair}
 use Rattle.double_double.specs.Pairs.{fma, a_mul}
 use Rattle.exponential.specs.Constants.{LN2H, LN2L}

@@ -9,7 +9,6 @@ use Rattle.rounding.specs.declared.Direction.TheVariants.{Down}
 use Rattle.ieee754.specs.Operations.{round_to_integral}
 use Rattle.pair.specs.Pair.{bits}
 use Rattle.exp2m1.specs.Score.{is_whole}
-use borrow.Author.Rules.{rules}
 use Rattle.exp2m1.proofs.is_whole.Goals as goal
 
 -- the four tests, one after the other

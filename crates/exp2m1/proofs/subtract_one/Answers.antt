@@ -1,6 +1,5 @@
 -- `exp2m1::subtract_one` meets its contract. Assumes nothing.
 use Rattle.exp2m1.specs.Phases.{subtract_one}
-use borrow.Author.Rules.{rules}
 use Rattle.exp2m1.proofs.subtract_one.Goals as goal
 
 pub returns-then-x : goal.returns-then-x

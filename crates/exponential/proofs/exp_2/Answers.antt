@@ -2,7 +2,6 @@
 use mathlib.Core.Path.{◌≡◌, sym, subst}
 use lib.IntN.{ℤ}
 use lib.Ieee.{Float, binary64, mul, neg, to_signed}
-use borrow.Author.Rules.{rules}
 use Rattle.rounding.specs.declared.Direction.TheVariants.{Nearest}
 use Rattle.ieee754.specs.Operations.{round_to_integral}
 use Rattle.pair.specs.declared.Pair.{Pair}

@@ -1,7 +1,6 @@
 -- `exponential::q_1` meets its contract: one equation for each call. Assumes nothing.
 use mathlib.Core.Path.{◌≡◌, ◌∙◌}
 use lib.Ieee.{Float, binary64, add, mul}
-use borrow.Author.Rules.{rules}
 use Rattle.pair.specs.declared.Pair.{Pair}
 use Rattle.double_double.specs.Pairs.{fma, fast_two_sum, fast_sum, d_mul}
 use Rattle.double_double.proofs.Chains.{link}

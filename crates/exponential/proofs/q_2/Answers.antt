@@ -1,7 +1,6 @@
 -- `exponential::q_2` meets its contract: one equation for each call. Assumes nothing.
 use mathlib.Core.Path.{◌≡◌}
 use lib.Ieee.{Float, binary64, add}
-use borrow.Author.Rules.{rules}
 use Rattle.pair.specs.declared.Pair.{Pair}
 use Rattle.pair.specs.Pair.{pair}
 use Rattle.double_double.specs.Pairs.{fma, fast_two_sum, fast_sum, a_mul, d_mul}
