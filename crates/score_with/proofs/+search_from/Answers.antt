@@ -17,7 +17,7 @@ search_from-requires t c =
     let small : s.at < nowhere = omega arith in
     let e = nth c.args.list.now s.at in
     let less : c.search_next.result.past - c.search_next.result.first < s.past - s.first =
-        subst (λ (z : Search). z.past - z.first < s.past - s.first) (sym c.search_next.ensures) (searching.narrower s e c.requires small).0 in
+    subst (λ (z : Search). z.past - z.first < s.past - s.first) (sym c.search_next.ensures) (searching.narrower s e c.requires small).0 in
     (let m = c.decreases in omega arith, subst Searches (sym c.search_next.ensures) (searching.goes_on s e c.requires small))
 
 pub returns : goal.returns
