@@ -2,11 +2,7 @@
 use mathlib.Core.Path.{sym}
 use Prim.Native.Nat.{ℕ}
 use lib.ListN.{length-replicate}
-use Rattle.weigher.proofs.answer_space.Statement.{statement}
-use Rattle.weigher.proofs.answer_space.Tie as tie
+use Rattle.weigher.proofs.answer_space.Goals as goal
 
-returns : tie.Need-returns
+pub returns : goal.returns
 returns c = sym (length-replicate {0} {A = ℕ} 459784 0)
-
-pub answer-space-spec : {M : Type 1} → statement M
-answer-space-spec = tie.close (tie.spec returns)

@@ -1,0 +1,15 @@
+-- `replay::finish` meets its contract: a close writes four bytes at most. Assumes nothing.
+use native.Mathlib.Omega.{arith}
+use lib.ListN.{length-take}
+use Rattle.service.proofs.Calls.{close_most}
+use Rattle.replay.proofs.finish.Goals as goal
+
+pub slice_bounds-answer-end : goal.slice_bounds-answer-end
+slice_bounds-answer-end g c =
+    let k = c.close-closed in
+    omega (arith, close_most _ _ k.ensures.0, k.auto.answer)
+
+pub slice_bounds-write_all-end : goal.slice_bounds-write_all-end
+slice_bounds-write_all-end g c =
+    let k = c.close-closed in
+    simp length-take (omega (arith, close_most _ _ k.ensures.0, k.auto.answer))
