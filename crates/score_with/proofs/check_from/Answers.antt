@@ -1,6 +1,5 @@
 -- `score_with::check_from` meets its contract: an entry more, and the end of the list (exception_list's Checked). Assumes nothing.
 use Rattle.std.proofs.Common.{ap, ◌∙◌}
-use Rattle.exceptions.specs.Lookup.{nth}
 use Rattle.exception_list.specs.declared.Check.{Check}
 use Rattle.exception_list.specs.Steps.{checked}
 use Rattle.exception_list.proofs.Checked as checking

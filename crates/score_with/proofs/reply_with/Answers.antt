@@ -12,7 +12,6 @@ use Rattle.exceptions.specs.Lookup.{find}
 use Rattle.exception_list.specs.List.{refusal_of}
 use Rattle.exp2m1.specs.Score.{score_with}
 use Rattle.score_with.specs.Score.{scored_with}
-use borrow.Author.Rules.{rules}
 use borrow.Author.Tests.{ne_eqb}
 use Rattle.score_with.proofs.reply_with.Goals as goal
 

@@ -1,7 +1,6 @@
 -- `score_with::score_with` meets its contract: the whole check comes to the list's refusal, and the whole search through a good list to what is found there (exception_list's Checked and Searched). Assumes nothing.
 use Rattle.std.proofs.Common.{◌≤◌, length, ap, sym, subst, ◌∙◌}
 use Rattle.pair.specs.Pair.{bits}
-use Rattle.exception_list.specs.declared.Check.{Check}
 use Rattle.exception_list.specs.declared.Search.{Search}
 use Rattle.exception_list.specs.Steps.{Searches, checked, searched}
 use Rattle.exception_list.proofs.Checked as checking

@@ -1,6 +1,5 @@
 -- `score_with::search_for` meets its contract. Assumes nothing.
 use mathlib.Core.Path.{ap, ◌∙◌}
-use borrow.Author.Rules.{rules}
 use Rattle.exception_list.specs.Steps.{search_in}
 use Rattle.score_with.proofs.search_for.Goals as goal
 
