@@ -7,8 +7,8 @@ ghost use Rattle.power_tables.specs.Tables.{T2, no_pair};
 
 use pair::Pair;
 
-// For 0 <= i < 64, T2[i] = (h,l) such that h+l is the best double-double approximation of 2^(i/2^12).
-const T2: [Pair; 64] = [
+// For 0 <= i < 64, PAIRS[i] = (h,l) such that h+l is the best double-double approximation of 2^(i/2^12).
+const PAIRS: [Pair; 64] = [
     Pair {
         hi: f64::from_bits(0x3ff0000000000000), // 0x1p+0
         lo: f64::from_bits(0x0000000000000000), // 0x0p+0
@@ -272,5 +272,5 @@ pub fn t2_at(i: usize) -> Pair
     requires { i < 64 }
     ensures { result ≡ get_or T2 i no_pair }
 {
-    T2[i]
+    PAIRS[i]
 }
