@@ -34,65 +34,65 @@ slice_bounds-take-count-in-loop-used c = omega (arith, out_length c.loop-used.in
 
 pub overflow_add-used : goal.overflow_add-used
 overflow_add-used c =
-    let t = one_take c.loop-used.invariant c.loop-used-test.true c.if-answers-len-lt-ANSWER_ROOM.false c.take-taken.result _ c.take-taken.ensures.0 c.take-taken.ensures.1 in
+    let t = one_take c.loop-used.invariant c.loop-used-test.true (omega arith) c.take-taken.result _ c.take-taken.ensures.0 c.take-taken.ensures.1 in
     omega (arith, c.well_formed.1.0.0, t.going.within)
 
 pub overflow_add-len : goal.overflow_add-len
 overflow_add-len c =
-    let t = one_take c.loop-used.invariant c.loop-used-test.true c.if-answers-len-lt-ANSWER_ROOM.false c.take-taken.result _ c.take-taken.ensures.0 c.take-taken.ensures.1 in
+    let t = one_take c.loop-used.invariant c.loop-used-test.true (omega arith) c.take-taken.result _ c.take-taken.ensures.0 c.take-taken.ensures.1 in
     omega (arith, c.well_formed.1.1.0.0, t.going.room)
 
 pub loop-used-smaller : goal.loop-used-smaller
 loop-used-smaller c =
-    let t = one_take c.loop-used.invariant c.loop-used-test.true c.if-answers-len-lt-ANSWER_ROOM.false c.take-taken.result _ c.take-taken.ensures.0 c.take-taken.ensures.1 in
+    let t = one_take c.loop-used.invariant c.loop-used-test.true (omega arith) c.take-taken.result _ c.take-taken.ensures.0 c.take-taken.ensures.1 in
     omega (arith, t.some)
 
 pub loop-used-preserved : goal.loop-used-preserved
 loop-used-preserved c =
-    (one_take c.loop-used.invariant c.loop-used-test.true c.if-answers-len-lt-ANSWER_ROOM.false c.take-taken.result _ c.take-taken.ensures.0 c.take-taken.ensures.1).going
+    (one_take c.loop-used.invariant c.loop-used-test.true (omega arith) c.take-taken.result _ c.take-taken.ensures.0 c.take-taken.ensures.1).going
 
 -- ---- the run behind it
 
 pub slice_bounds-answer_run-count : goal.slice_bounds-answer_run-count
 slice_bounds-answer_run-count c =
-    let t = one_take c.loop-used.invariant c.loop-used-test.true c.if-answers-len-lt-ANSWER_ROOM.false c.take-taken.result _ c.take-taken.ensures.0 c.take-taken.ensures.1 in
+    let t = one_take c.loop-used.invariant c.loop-used-test.true (omega arith) c.take-taken.result _ c.take-taken.ensures.0 c.take-taken.ensures.1 in
     omega (arith, t.going.within)
 
 pub slice_bounds-answer_run-start : goal.slice_bounds-answer_run-start
 slice_bounds-answer_run-start c =
-    let t = one_take c.loop-used.invariant c.loop-used-test.true c.if-answers-len-lt-ANSWER_ROOM.false c.take-taken.result _ c.take-taken.ensures.0 c.take-taken.ensures.1 in
+    let t = one_take c.loop-used.invariant c.loop-used-test.true (omega arith) c.take-taken.result _ c.take-taken.ensures.0 c.take-taken.ensures.1 in
     omega (arith, t.going.within)
 
 pub slice_bounds-answer_run-count-then-used-piece : goal.slice_bounds-answer_run-count-then-used-piece
 slice_bounds-answer_run-count-then-used-piece c =
-    let t = one_take c.loop-used.invariant c.loop-used-test.true c.if-answers-len-lt-ANSWER_ROOM.false c.take-taken.result _ c.take-taken.ensures.0 c.take-taken.ensures.1 in
+    let t = one_take c.loop-used.invariant c.loop-used-test.true (omega arith) c.take-taken.result _ c.take-taken.ensures.0 c.take-taken.ensures.1 in
     omega (arith, t.going.room, out_length t.going)
 
 pub slice_bounds-answer_run-start-then-used-piece : goal.slice_bounds-answer_run-start-then-used-piece
 slice_bounds-answer_run-start-then-used-piece c =
-    let t = one_take c.loop-used.invariant c.loop-used-test.true c.if-answers-len-lt-ANSWER_ROOM.false c.take-taken.result _ c.take-taken.ensures.0 c.take-taken.ensures.1 in
+    let t = one_take c.loop-used.invariant c.loop-used-test.true (omega arith) c.take-taken.result _ c.take-taken.ensures.0 c.take-taken.ensures.1 in
     omega (arith, t.going.room, out_length t.going)
 
 pub overflow_add-used-then-used-piece : goal.overflow_add-used-then-used-piece
 overflow_add-used-then-used-piece c =
-    let t = one_take c.loop-used.invariant c.loop-used-test.true c.if-answers-len-lt-ANSWER_ROOM.false c.take-taken.result _ c.take-taken.ensures.0 c.take-taken.ensures.1 in
+    let t = one_take c.loop-used.invariant c.loop-used-test.true (omega arith) c.take-taken.result _ c.take-taken.ensures.0 c.take-taken.ensures.1 in
     let r = going_run t.going (t.no_frame c.if-taken-gt0.true) c.answer_run-run.result _ c.answer_run-run.ensures c.between-state.ensures in
     omega (arith, c.well_formed.1.0.0, r.within)
 
 pub loop-used-preserved-then-used-piece : goal.loop-used-preserved-then-used-piece
 loop-used-preserved-then-used-piece c =
-    let t = one_take c.loop-used.invariant c.loop-used-test.true c.if-answers-len-lt-ANSWER_ROOM.false c.take-taken.result _ c.take-taken.ensures.0 c.take-taken.ensures.1 in
+    let t = one_take c.loop-used.invariant c.loop-used-test.true (omega arith) c.take-taken.result _ c.take-taken.ensures.0 c.take-taken.ensures.1 in
     going_run t.going (t.no_frame c.if-taken-gt0.true) c.answer_run-run.result _ c.answer_run-run.ensures c.between-state.ensures
 
 pub overflow_add-len-then-used-piece : goal.overflow_add-len-then-used-piece
 overflow_add-len-then-used-piece c =
-    let t = one_take c.loop-used.invariant c.loop-used-test.true c.if-answers-len-lt-ANSWER_ROOM.false c.take-taken.result _ c.take-taken.ensures.0 c.take-taken.ensures.1 in
+    let t = one_take c.loop-used.invariant c.loop-used-test.true (omega arith) c.take-taken.result _ c.take-taken.ensures.0 c.take-taken.ensures.1 in
     let r = going_run t.going (t.no_frame c.if-taken-gt0.true) c.answer_run-run.result _ c.answer_run-run.ensures c.between-state.ensures in
     omega (arith, c.well_formed.1.1.0.0, r.room)
 
 pub loop-used-smaller-then-used-piece : goal.loop-used-smaller-then-used-piece
 loop-used-smaller-then-used-piece c =
-    let t = one_take c.loop-used.invariant c.loop-used-test.true c.if-answers-len-lt-ANSWER_ROOM.false c.take-taken.result _ c.take-taken.ensures.0 c.take-taken.ensures.1 in
+    let t = one_take c.loop-used.invariant c.loop-used-test.true (omega arith) c.take-taken.result _ c.take-taken.ensures.0 c.take-taken.ensures.1 in
     omega (arith, c.loop-used-test.true, t.some)
 
 pub shape_of-answers : goal.shape_of-answers
