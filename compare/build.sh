@@ -45,7 +45,9 @@ exp2m1() {
 }
 
 if [ -f "$source/libm/src/math/exp2m1.rs" ]; then
-    ln -sfn "$(cd "$source" && pwd)" "$out/source"
+    rm -rf "$out/source"
+    cp -R "$source" "$out/source"
+    chmod -R u+w "$out/source"
     exp2m1 machine
     exp2m1 weigher
     exp2m1 recorded

@@ -5,8 +5,9 @@ set -eu
 cd "$(dirname "$0")/.."
 mkdir -p target
 status=0
+rm -f target/gate.status
 { rt ci 2>&1 || echo "$?" > target/gate.status; } | tee target/gate.log
-[ ! -e target/gate.status ] || { status=$(cat target/gate.status); rm target/gate.status; }
+[ ! -e target/gate.status ] || status=$(cat target/gate.status)
 if grep -qE '^rt: ok.*, [1-9][0-9]* bad' target/gate.log; then
     echo "an edit is bad" >&2
     status=1

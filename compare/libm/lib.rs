@@ -1,4 +1,4 @@
-//! The Rust exp2m1 and the support files beside it, unchanged, from the folder that build.sh links as target/compare/source.
+//! The Rust exp2m1 and the support files beside it, unchanged, which build.sh copies to target/compare/source.
 //!
 //! This file stands in for math/mod.rs. Each stand-in has the meaning that document 01 gives. The crate is built once for each
 //! choice of `fma`.
