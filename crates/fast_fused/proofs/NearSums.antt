@@ -11,7 +11,7 @@ use lib.Ieee.{binary64, to_bits}
 use Rattle.wide.proofs.Nat.{le_or_gt, shl}
 use Rattle.rounding.specs.declared.Direction.{Direction}
 use Rattle.rounding.specs.Machine.{Rounds}
-use Rattle.operands.specs.declared.Parts.{Parts}
+use Rattle.operands.specs.declared.parts.Parts.{Parts}
 use Rattle.ieee754.specs.Operations.{sum_to}
 use Rattle.operands.specs.Machine.{Addends, RoundsSum}
 use Rattle.operands.proofs.Reading.{stands_just}

@@ -16,9 +16,9 @@ use Rattle.wide.proofs.Sticky.{Jam, jam_of, jam_is, jam_scale, jam_below}
 use Rattle.wide.proofs.Shifts.{word_jammed, two_steps, far}
 use Rattle.rounding.specs.declared.Direction.{Direction}
 use Rattle.rounding.specs.Machine.{Stands, RoundsWord}
-use Rattle.operands.specs.declared.Parts.{Parts}
+use Rattle.operands.specs.declared.parts.Parts.{Parts}
 use Rattle.ieee754.specs.Operations.{sum_to}
-use Rattle.operands.specs.Machine.{Normal, Summands, product_size, addend_size}
+use Rattle.operands.specs.Machine.{Summands, product_size, addend_size}
 use Rattle.multiply_add.proofs.Sums.{sum_like, sum_more, sum_comm, beq_true, beq_false, add_stands, sub_stands, sub_order}
 use Rattle.multiply_add.proofs.Products.{product_ready}
 
@@ -71,9 +71,9 @@ module _ (d : Direction) (s t : Bool) {A B c x y e : ℕ} (h : Summands B A c x 
 -- ---- the product and the addend in the units of the addend's word
 
 module _ (x y z : Parts) (v k A B c : ℕ) (K : 64 + k + (x.e + y.e) ≡ z.e + 1137) (hv : v ≡ jammed (x.m * 1024 * (y.m * 2048)) (2 ^ (64 + k))) where
-  pub small_lt : 2 ≤ k → Normal x → Normal y → v < 2 ^ 61
-  small_lt l X Y =
-      jam_below (2 ^ 61) refl (lt_of_lt_of_le (product_ready x y (x.m * 1024 * (y.m * 2048)) X Y refl).high (le_trans (pow_mono {i = 127} {j = 61 + (64 + k)} (more k l)) (le_of_eq (pow-add 2 61 (64 + k))))) (jam_of (pow_pos (64 + k)) hv)
+  pub small_lt : 2 ≤ k → v < 2 ^ 61
+  small_lt l =
+      jam_below (2 ^ 61) refl (lt_of_lt_of_le (product_ready x y (x.m * 1024 * (y.m * 2048)) refl).high (le_trans (pow_mono {i = 127} {j = 61 + (64 + k)} (more k l)) (le_of_eq (pow-add 2 61 (64 + k))))) (jam_of (pow_pos (64 + k)) hv)
     where
       more : (k : ℕ) → 2 ≤ k → 127 ≤ 61 + (64 + k)
       more k l = omega arith

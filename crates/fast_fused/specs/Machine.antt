@@ -1,7 +1,7 @@
 -- What the functions of this crate say of each other. Nothing here is part of what an operation means. Definitions only.
 use Rattle.std.specs.Prelude.{◌≡◌, ◌≢◌, ◌⊎◌, ℕ, ◌+◌, ◌≤◌, ◌<◌, Bool}
-use Rattle.operands.specs.declared.Parts.{Parts}
-use Rattle.operands.specs.Machine.{Middle, Normal}
+use Rattle.operands.specs.declared.parts.Parts.{Parts}
+use Rattle.operands.specs.Machine.{Middle}
 
 -- three exponent fields: the last digit of the third's number is one of the product of the others, or at most 20 above it
 pub record Near (x y z : ℕ) : Type 0 where
@@ -12,9 +12,6 @@ pub record Near (x y z : ℕ) : Type 0 where
 
 -- the same of the parts
 pub record NearParts (x y z : Parts) : Type 0 where
-  pub first : Normal x
-  pub second : Normal y
-  pub third : Normal z
   pub over : x.e + y.e ≤ z.e + 1126
   pub under : z.e + 1054 ≤ x.e + y.e
 
@@ -27,9 +24,6 @@ pub record Small (x y z : ℕ) : Type 0 where
 
 -- the same of the parts
 pub record SmallParts (x y z : Parts) : Type 0 where
-  pub first : Normal x
-  pub second : Normal y
-  pub third : Normal z
   pub middle : (651 ≤ z.e) × (z.e < 1551)
   pub over : x.e + y.e ≤ z.e + 1053
 

@@ -13,9 +13,9 @@ use lib.Ieee.Exact.{HasValue}
 use lib.Ieee.Fits.{down_pos}
 use Rattle.rounding.specs.declared.Direction.{Direction}
 use Rattle.rounding.specs.Rounding.{round_to}
-use Rattle.operands.specs.declared.Parts.{Parts}
+use Rattle.operands.specs.declared.parts.Parts.{Parts}
 use Rattle.ieee754.specs.Operations.{product, plus, sum_to, fused_multiply_add}
-use Rattle.operands.specs.Machine.{Normal, Ready, product_size, addend_size, fused_floats}
+use Rattle.operands.specs.Machine.{Ready, product_size, addend_size, fused_floats}
 use Rattle.multiply_add.proofs.Sums.{sum_like, sum_more, differ}
 
 pub fused_is : (d : Direction) (a b c : ℕ) → fused_floats d a b c ≡ to_bits binary64 (plus d (product (of_bits binary64 a) (of_bits binary64 b)) (of_bits binary64 c))
@@ -101,8 +101,8 @@ addend_parts z =
     same : (m E p w v : ℕ) → m * E * (p * w * v) ≡ m * p * w * (E * v)
     same m E p w v = simp (mul_assoc, mul_comm, mul_left_comm)
 
-pub parts_pos : (x y : Parts) → Normal x → Normal y → 0 < x.m * 2 ^ x.e * (y.m * 2 ^ y.e) * 2 ^ 21
-parts_pos x y p q = mul-pos (mul-pos (mul-pos (lt_of_lt_of_le (pow_pos 52) p.low) (pow_pos x.e)) (mul-pos (lt_of_lt_of_le (pow_pos 52) q.low) (pow_pos y.e))) (pow_pos 21)
+pub parts_pos : (x y : Parts) → 0 < x.m * 2 ^ x.e * (y.m * 2 ^ y.e) * 2 ^ 21
+parts_pos x y = mul-pos (mul-pos (mul-pos (lt_of_lt_of_le (pow_pos 52) x.low) (pow_pos x.e)) (mul-pos (lt_of_lt_of_le (pow_pos 52) y.low) (pow_pos y.e))) (pow_pos 21)
 
 -- ---- a product and an addend are ready
 
@@ -112,12 +112,12 @@ low10 m h = omega arith
 high10 : (m : ℕ) → m < 2 ^ 53 → m * 1024 < 2 ^ 63
 high10 m h = omega arith
 
-pub product_ready : (a b : Parts) (w : ℕ) → Normal a → Normal b → w ≡ a.m * 1024 * (b.m * 2048) → Ready w
-product_ready a b w A B e =
+pub product_ready : (a b : Parts) (w : ℕ) → w ≡ a.m * 1024 * (b.m * 2048) → Ready w
+product_ready a b w e =
     subst (λ (x : ℕ). Ready x) (sym e)
     record {
-      low = mul-le-mul (low10 a.m A.low) (low11 b.m B.low);
-      high = lt_of_le_of_lt (mul-le-mul_left (a.m * 1024) (high11 b.m B.high)) (mul-lt-mul_of_pos_right (high10 a.m A.high) (pow_pos 64));
+      low = mul-le-mul (low10 a.m a.low) (low11 b.m b.low);
+      high = lt_of_le_of_lt (mul-le-mul_left (a.m * 1024) (high11 b.m b.high)) (mul-lt-mul_of_pos_right (high10 a.m a.high) (pow_pos 64));
       tail = ap (λ (x : ℕ). x % 2 ^ 21) (factor a.m b.m) ∙ mul-mod_left (a.m * b.m) (2 ^ 21);
     }
   where
@@ -132,18 +132,18 @@ product_ready a b w A B e =
         let x : m * 1024 * (n * 2048) ≡ m * n * 1024 * 2048 = simp (mul_assoc, mul_comm, mul_left_comm) in
         omega arith
 
-pub addend_ready : (c : Parts) → Normal c → Ready (c.m * 1024 * 2 ^ 64 + 0)
-addend_ready c C =
+pub addend_ready : (c : Parts) → Ready (c.m * 1024 * 2 ^ 64 + 0)
+addend_ready c =
     subst (λ (x : ℕ). Ready x) (sym (add-zero (c.m * 1024 * 2 ^ 64)))
     record {
-      low = le_trans (lit≤ tt) (mul-le-mul_right (2 ^ 64) (low10 c.m C.low));
-      high = mul-lt-mul_of_pos_right (high10 c.m C.high) (pow_pos 64);
+      low = le_trans (lit≤ tt) (mul-le-mul_right (2 ^ 64) (low10 c.m c.low));
+      high = mul-lt-mul_of_pos_right (high10 c.m c.high) (pow_pos 64);
       tail = ap (λ (x : ℕ). x % 2 ^ 21) (sym (mul_assoc (c.m * 1024) (2 ^ 43) (2 ^ 21))) ∙ mul-mod_left (c.m * 1024 * 2 ^ 43) (2 ^ 21);
     }
 
 -- the exponent of a product
-pub exponents : (a b : Parts) → Normal a → Normal b → a.e + b.e ≤ 4194
-exponents a b A B = sum a.e b.e A.small B.small
+pub exponents : (a b : Parts) → a.e + b.e ≤ 4194
+exponents a b = sum a.e b.e a.small b.small
   where
     sum : (x y : ℕ) → x ≤ 2097 → y ≤ 2097 → x + y ≤ 4194
     sum x y h k = omega arith

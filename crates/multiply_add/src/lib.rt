@@ -15,7 +15,7 @@ ghost use Rattle.rounding.specs.declared.Direction.TheVariants.{Nearest};
 ghost use Rattle.rounding.specs.Rounding.{round_to};
 ghost use Rattle.ieee754.specs.Operations.{zero_sign, sum_to, plus, exactly, infinite, fused_bits};
 ghost use Rattle.multiply_add.specs.Fused.{fused_reply};
-ghost use Rattle.operands.specs.Machine.{magnitude, Regular, Normal, Ready, product_size, addend_size, Addends, RoundsSum, fused_floats};
+ghost use Rattle.operands.specs.Machine.{magnitude, Regular, Ready, product_size, addend_size, Addends, RoundsSum, fused_floats};
 
 use operands::{NAN, Parts, is_regular, negative, pick_sign, quiet, read, unlike_signs};
 use reply::Reply;
@@ -105,7 +105,6 @@ fn align(dir: Direction, s: bool, p: Wide, pe: u64, t: bool, q: Wide, qe: u64) -
 
 // The product of two significands, with 21 zeros below it.
 fn product(a: Parts, b: Parts) -> Wide
-    requires { Normal a × Normal b }
     ensures { value result ≡ a.m * 1024 * (b.m * 2048) }
 {
     wide::multiply(a.m * 1024, b.m * 2048)
@@ -113,7 +112,6 @@ fn product(a: Parts, b: Parts) -> Wide
 
 // ±a * b ±c, rounded and packed.
 fn fused_parts(dir: Direction, s: bool, a: Parts, b: Parts, t: bool, c: Parts) -> u64
-    requires { Normal a × Normal b × Normal c }
     ensures { (A B d : ℕ) → 0 < d → A * 2 ^ 2273 ≡ product_size a b * d → B * 2 ^ 2273 ≡ addend_size c * d → result ≡ to_bits binary64 (sum_to dir s A t B d) }
 {
     let p = product(a, b);
@@ -136,7 +134,6 @@ fn fused_nonzero(dir: Direction, a: u64, b: u64, c: u64) -> u64
 
 // ±a * b, rounded and packed.
 fn product_parts(dir: Direction, s: bool, a: Parts, b: Parts) -> u64
-    requires { Normal a × Normal b }
     ensures { (A d : ℕ) → 0 < d → A * 2 ^ 2273 ≡ product_size a b * d → result ≡ to_bits binary64 (round_to dir binary64 s A d) }
 {
     round_wide(dir, s, product(a, b), a.e + b.e)

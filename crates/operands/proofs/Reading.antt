@@ -19,8 +19,7 @@ use Rattle.rounding.specs.Machine.{sign_bit, overflow_bits, packed, Stands}
 use Rattle.rounding.proofs.Place.{exact, Sits, whole_at, whole_exact}
 use Rattle.rounding.proofs.Rounding.{bits_at}
 use Rattle.ieee754.proofs.Nans.{nan_pattern, nan_read}
-use Rattle.operands.specs.Machine.{sign_of, magnitude, Normal, Reads}
-use Rattle.operands.specs.declared.Parts.{Parts}
+use Rattle.operands.specs.Machine.{sign_of, magnitude}
 
 of_bits_is : (b : ℕ) → of_bits binary64 b ≡ of_fields binary64 (sign_of b) (magnitude b / 0x10000000000000) (b % 0x10000000000000)
 unfolding of_bits
@@ -173,25 +172,18 @@ raised_same f z e l =
     join : (z : ℕ) → z ≤ 52 → z + (52 - z) ≡ 52
     join z l = omega arith
 
-pub reads_low : (b : ℕ) (p : Parts) → magnitude b / 0x10000000000000 ≡ 0 → Normal p → p.m * 2 ^ p.e ≡ b % 0x10000000000000 * 2 ^ 52 → Reads b p
-reads_low b p f n e =
-    record {
-      normal = n;
-      value = subst (λ (x : ℕ). HasValue (of_bits binary64 b) (sign_of b) x (2 ^ 1126)) (ap (λ (x : ℕ). x * 2 ^ 52) (mul-one (b % 0x10000000000000)) ∙ sym e)
-          (finer (of_bits binary64 b) (sign_of b) (b % 0x10000000000000 * 2 ^ 0) (2 ^ 1074) (2 ^ 52) (units_low b (field b f)).value);
-    }
+pub reads_low : (b m e : ℕ) → magnitude b / 0x10000000000000 ≡ 0 → m * 2 ^ e ≡ b % 0x10000000000000 * 2 ^ 52 → HasValue (of_bits binary64 b) (sign_of b) (m * 2 ^ e) (2 ^ 1126)
+reads_low b m e f s =
+    subst (λ (x : ℕ). HasValue (of_bits binary64 b) (sign_of b) x (2 ^ 1126)) (ap (λ (x : ℕ). x * 2 ^ 52) (mul-one (b % 0x10000000000000)) ∙ sym s)
+    (finer (of_bits binary64 b) (sign_of b) (b % 0x10000000000000 * 2 ^ 0) (2 ^ 1074) (2 ^ 52) (units_low b (field b f)).value)
   where
     field : (b : ℕ) → b % 0x8000000000000000 / 0x10000000000000 ≡ 0 → b % 0x8000000000000000 < 0x10000000000000
     field b f = omega arith
 
-pub reads_mid : (b x : ℕ) (p : Parts) → magnitude b / 0x10000000000000 ≡ suc x → magnitude b < 0x7ff0000000000000 → p.m ≡ 0x10000000000000 + b % 0x10000000000000 → p.e ≡ x + 52 → Reads b p
-reads_mid b x p f h em ee =
-    let u = units_mid b x f h in
-    record {
-      normal = record { low = omega arith; high = subst (λ (y : ℕ). y < 2 ^ 53) (sym em) u.small; small = omega arith };
-      value = subst (λ (y : ℕ). HasValue (of_bits binary64 b) (sign_of b) y (2 ^ 1126)) (mul_assoc (0x10000000000000 + b % 0x10000000000000) (2 ^ x) (2 ^ 52) ∙ ap₂ (λ (y z : ℕ). y * z) (sym em) (sym (pow-add 2 x 52) ∙ ap (λ (y : ℕ). 2 ^ y) (sym ee)))
-          (finer (of_bits binary64 b) (sign_of b) ((0x10000000000000 + b % 0x10000000000000) * 2 ^ x) (2 ^ 1074) (2 ^ 52) u.value);
-    }
+pub reads_mid : (b x m e : ℕ) → magnitude b / 0x10000000000000 ≡ suc x → magnitude b < 0x7ff0000000000000 → m ≡ 0x10000000000000 + b % 0x10000000000000 → e ≡ x + 52 → HasValue (of_bits binary64 b) (sign_of b) (m * 2 ^ e) (2 ^ 1126)
+reads_mid b x m e f h em ee =
+    subst (λ (y : ℕ). HasValue (of_bits binary64 b) (sign_of b) y (2 ^ 1126)) (mul_assoc (0x10000000000000 + b % 0x10000000000000) (2 ^ x) (2 ^ 52) ∙ ap₂ (λ (y z : ℕ). y * z) (sym em) (sym (pow-add 2 x 52) ∙ ap (λ (y : ℕ). 2 ^ y) (sym ee)))
+    (finer (of_bits binary64 b) (sign_of b) ((0x10000000000000 + b % 0x10000000000000) * 2 ^ x) (2 ^ 1074) (2 ^ 52) (units_mid b x f h).value)
 
 -- ---- in units of 2 ^ -2273
 

@@ -7,7 +7,7 @@ use Rattle.std.specs.Float.Ieee.Exact.{HasValue}
 use Rattle.rounding.specs.declared.Direction.{Direction}
 use Rattle.rounding.specs.Machine.{sign_bit, Stands, Rounds}
 use Rattle.ieee754.specs.Operations.{zero_sign, fused_multiply_add}
-use Rattle.operands.specs.declared.Parts.{Parts}
+use Rattle.operands.specs.declared.parts.Parts.{Parts}
 
 -- ---- patterns
 
@@ -30,16 +30,9 @@ Middle x = (600 ≤ x) × (x < 1500)
 abbrev pub Regular : ℕ → Type 0
 Regular b = (0 < magnitude b) × (magnitude b < 0x7ff0000000000000)
 
--- a significand of 53 digits, and an exponent in units of 2 ^ -1126
-pub record Normal (p : Parts) : Type 0 where
-  pub low : 2 ^ 52 ≤ p.m
-  pub high : p.m < 2 ^ 53
-  pub small : p.e ≤ 2097
-
 -- p is the finite number that b is a pattern of
-pub record Reads (b : ℕ) (p : Parts) : Type 0 where
-  pub normal : Normal p
-  pub value : HasValue (of_bits binary64 b) (sign_of b) (p.m * 2 ^ p.e) (2 ^ 1126)
+abbrev pub Reads : ℕ → Parts → Type 0
+Reads b p = HasValue (of_bits binary64 b) (sign_of b) (p.m * 2 ^ p.e) (2 ^ 1126)
 
 -- the exponent e + n + 1200; past 0 and 4000 every rounding is the same
 abbrev pub scaled_exponent : ℕ → ℤ → ℕ

@@ -2,11 +2,14 @@
 // exponent. The crates `multiply_add`, `integral` and `scaling` compute the operations.
 #![tactic(auto)]
 
+mod parts;
+
 ghost use Rattle.std.specs.Prelude.{◌≡◌, true, cond, ◌+◌, ◌*◌, ◌^◌, ◌<◌};
 ghost use Rattle.std.specs.Float.Ieee.{unlike};
 ghost use Rattle.ieee754.specs.Operations.{quiet};
-ghost use Rattle.operands.specs.Machine.{sign_of, field_of, Middle, Regular, Normal, Reads};
+ghost use Rattle.operands.specs.Machine.{sign_of, field_of, Middle, Regular, Reads};
 
+pub use parts::Parts;
 use rounding::{INFINITY, LEADING, SIGN};
 
 // The pattern of a NaN result where no operand is a NaN.
@@ -14,13 +17,6 @@ pub const NAN: u64 = 0x7ff8000000000000;
 
 // The top bit of a fraction.
 const TOP: u64 = 0x8000000000000;
-
-// A finite number that is not zero, without its sign: m * 2^e in units of 2^-1126, with m of 53 digits.
-#[derive(Clone, Copy)]
-pub struct Parts {
-    pub m: u64,
-    pub e: u64,
-}
 
 pub fn negative(b: u64) -> bool
     ensures { result ≡ sign_of b }
@@ -82,7 +78,7 @@ pub fn is_regular(b: u64) -> bool
 // The fraction of a subnormal number, shifted up to 53 digits.
 fn read_subnormal(fraction: u64) -> Parts
     requires { (0 < fraction) × (fraction < 2 ^ 52) }
-    ensures { Normal result × (result.m * 2 ^ result.e ≡ fraction * 2 ^ 52) }
+    ensures { result.m * 2 ^ result.e ≡ fraction * 2 ^ 52 }
 {
     let z = u64::leading_zeros(fraction) as u64 - 11;
     Parts {
@@ -98,11 +94,10 @@ pub fn read(b: u64) -> Parts
     let field = b % SIGN / LEADING;
     let fraction = b % LEADING;
     if field == 0 {
-        read_subnormal(fraction)
-    } else {
-        Parts {
-            m: LEADING + fraction,
-            e: field + 51,
-        }
+        return read_subnormal(fraction);
+    }
+    Parts {
+        m: LEADING + fraction,
+        e: field + 51,
     }
 }

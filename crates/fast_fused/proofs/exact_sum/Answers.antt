@@ -14,7 +14,7 @@ pub add_signed-requires : goal.add_signed-requires
 add_signed-requires c =
     let a = c.args in
     let l = c.requires in
-    (subst (λ (n : ℕ). n < 2 ^ 127) (sym c.multiply-p.ensures) (product_lt a.x.m a.y.m l.first.high l.second.high), subst (λ (n : ℕ). n < 2 ^ 127) (sym c.shift_left.ensures) (addend_lt a.z.m (a.z.e + 1127 - (a.x.e + a.y.e)) l.third.high (shift a.z.e (a.x.e + a.y.e) l.under)))
+    (subst (λ (n : ℕ). n < 2 ^ 127) (sym c.multiply-p.ensures) (product_lt a.x.m a.y.m a.x.high a.y.high), subst (λ (n : ℕ). n < 2 ^ 127) (sym c.shift_left.ensures) (addend_lt a.z.m (a.z.e + 1127 - (a.x.e + a.y.e)) a.z.high (shift a.z.e (a.x.e + a.y.e) l.under)))
 
 pub returns : goal.returns
 returns c =

@@ -34,10 +34,10 @@ returns c =
     let sum = c.exact_sum-sum.result in
     let n = exact_sum-sum-requires v in
     exact_sum Nearest (of_bits binary64 a.a) (of_bits binary64 a.b) (of_bits binary64 a.c) (sign_of a.a) (sign_of a.b) (sign_of a.c) (x.m * 2 ^ x.e) (y.m * 2 ^ y.e) (z.m * 2 ^ z.e) c.round_exact.result
-    c.read_normal-x.ensures.0.value c.read_normal-y.ensures.0.value c.read_normal-z.ensures.0.value
+    c.read_normal-x.ensures.0 c.read_normal-y.ensures.0 c.read_normal-z.ensures.0
     (λ A B q Q p p'.
     near_answer x y z A B q k (unit (x.e + y.e) z.e n.over) Q p p' Nearest (unlike (sign_of a.a) (sign_of a.b)) (sign_of a.c) sum.neg (value sum.size) c.round_exact.result
-    (mul-pos (lt_of_lt_of_le (lit< tt) n.third.low) (pow_pos k))
+    (mul-pos (lt_of_lt_of_le (lit< tt) z.low) (pow_pos k))
     (subst (λ (b : Bool). SumOf b (sign_of a.c) (x.m * 2 * y.m) (z.m * 2 ^ k) sum.neg (value sum.size)) c.unlike_signs.ensures
     (subst (λ (b : Bool). SumOf c.unlike_signs.result b (x.m * 2 * y.m) (z.m * 2 ^ k) sum.neg (value sum.size)) v.negative.ensures c.exact_sum-sum.ensures))
     c.round_exact.ensures)

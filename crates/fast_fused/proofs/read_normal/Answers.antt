@@ -19,4 +19,4 @@ pub returns : goal.returns
 returns c =
     let b = c.args.b in
     let x = field_of b in
-    (reads_mid b (x - 1) _ (one_more x c.requires.0) (finite (b % 0x8000000000000000) c.requires.1) refl (exponent x c.requires.0), refl)
+    (reads_mid b (x - 1) _ _ (one_more x c.requires.0) (finite (b % 0x8000000000000000) c.requires.1) refl (exponent x c.requires.0), refl)

@@ -15,7 +15,7 @@ align-requires c =
     let a = c.args.a in
     let b = c.args.b in
     let q = c.args.c in
-    (product_ready a b (value c.product-p.result) c.requires.0 c.requires.1 c.product-p.ensures, addend_ready q c.requires.2, exponents a b c.requires.0 c.requires.1, exponent q.e c.requires.2.small)
+    (product_ready a b (value c.product-p.result) c.product-p.ensures, addend_ready q, exponents a b, exponent q.e q.small)
 
 pub returns : goal.returns
 returns c =

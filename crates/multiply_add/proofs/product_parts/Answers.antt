@@ -11,7 +11,7 @@ pub round_wide-requires : goal.round_wide-requires
 round_wide-requires c =
     let a = c.args.a in
     let b = c.args.b in
-    (ready_pos (product_ready a b (value c.product.result) c.requires.0 c.requires.1 c.product.ensures), exponents a b c.requires.0 c.requires.1)
+    (ready_pos (product_ready a b (value c.product.result) c.product.ensures), exponents a b)
 
 pub returns : goal.returns
 returns c =

@@ -14,11 +14,11 @@ field : (x : ℕ) → (x ≡ 0 → ⊥) → x + 51 ≡ x - 1 + 52
 field x n = omega arith
 
 pub returns-then-field-eq0 : goal.returns-then-field-eq0
-returns-then-field-eq0 c = reads_low c.args.b c.read_subnormal.result c.if-field-eq0.true c.read_subnormal.ensures.0 c.read_subnormal.ensures.1
+returns-then-field-eq0 c = reads_low c.args.b _ _ c.if-field-eq0.true c.read_subnormal.ensures
 
-pub returns-else-field-eq0 : goal.returns-else-field-eq0
-returns-else-field-eq0 c =
-    let s = (goal.at.returns-else-field-eq0 c).Start in
+pub returns : goal.returns
+returns c =
+    let s = (goal.at.returns c).Start in
     let b = s.args.b in
     let x = magnitude b / 0x10000000000000 in
-    reads_mid b (x - 1) _ (one_more x c.if-field-eq0.false) s.requires.1 refl (field x c.if-field-eq0.false)
+    reads_mid b (x - 1) _ _ (one_more x c.if-field-eq0.false) s.requires.1 refl (field x c.if-field-eq0.false)

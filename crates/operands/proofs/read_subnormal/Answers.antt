@@ -22,6 +22,10 @@ small z = omega arith
 few : (z : ℕ) → z ≤ 63 → z - 11 ≤ 52
 few z h = omega arith
 
+-- no digit is shifted out
+whole : (c : Start) → c.args.fraction * 2 ^ (count_leading_zeros 64 c.args.fraction - 11) % 2 ^ 64 ≡ c.args.fraction * 2 ^ (count_leading_zeros 64 c.args.fraction - 11)
+whole c = mod-eq_of_lt (lt_of_lt_of_le (fill c).high (lit≤ tt))
+
 pub overflow_cast-z : goal.overflow_cast-z
 overflow_cast-z c = omega (arith, lead c)
 
@@ -37,7 +41,10 @@ overflow_sub-result c = omega (arith, lead c)
 pub returns : goal.returns
 returns c =
     let f = c.args.fraction in
-    let z = count_leading_zeros 64 f - 11 in
-    let r = fill c in
-    let e : f * 2 ^ z % 2 ^ 64 ≡ f * 2 ^ z = mod-eq_of_lt (lt_of_lt_of_le r.high (lit≤ tt)) in
-    (record { low = subst (λ (x : ℕ). 2 ^ 52 ≤ x) (sym e) r.low; high = subst (λ (x : ℕ). x < 2 ^ 53) (sym e) r.high; small = small z }, raised_same f z e (few (count_leading_zeros 64 f) (lead c).few))
+    raised_same f (count_leading_zeros 64 f - 11) (whole (goal.at.returns c).Start) (few (count_leading_zeros 64 f) (lead (goal.at.returns c).Start).few)
+
+pub invariant_of-result-clause-low : goal.invariant_of-result-clause-low
+invariant_of-result-clause-low c = subst (λ (x : ℕ). 2 ^ 52 ≤ x) (sym (whole (goal.at.invariant_of-result-clause-low c).Start)) (fill (goal.at.invariant_of-result-clause-low c).Start).low
+
+pub invariant_of-result-clause-high : goal.invariant_of-result-clause-high
+invariant_of-result-clause-high c = subst (λ (x : ℕ). x < 2 ^ 53) (sym (whole (goal.at.invariant_of-result-clause-high c).Start)) (fill (goal.at.invariant_of-result-clause-high c).Start).high

@@ -24,7 +24,7 @@ round_pack-requires c =
     let e = (goal.at.round_pack-requires c).After-scaled_exponent-e in
     let r = (goal.at.round_pack-requires c).After-read-p in
     let s = (goal.at.round_pack-requires c).Start in
-    (significand r.read-p.result.m r.read-p.ensures.normal.low, subst (λ (x : ℕ). x ≤ 4322) (sym (exponent e)) (scaled_le r.read-p.result.e s.args.n r.read-p.ensures.normal.small))
+    (significand r.read-p.result.m r.read-p.result.low, subst (λ (x : ℕ). x ≤ 4322) (sym (exponent e)) (scaled_le r.read-p.result.e s.args.n r.read-p.result.small))
 
 pub returns : goal.returns
 returns c =
@@ -34,6 +34,6 @@ returns c =
     let s = (goal.at.returns c).Start in
     let p = r.read-p.result in
     let v = r.read-p.ensures in
-    scaled_answer Nearest (sign_of s.args.x) p.m p.e c.round_pack.result s.args.n (of_bits binary64 s.args.x) v.normal.low v.normal.high v.value
+    scaled_answer Nearest (sign_of s.args.x) p.m p.e c.round_pack.result s.args.n (of_bits binary64 s.args.x) p.low p.high v
     (subst (λ (x : ℕ). Packs Nearest (sign_of s.args.x) (p.m * 2048) x c.round_pack.result) (exponent e) (subst (λ (t : Bool). Packs Nearest t (p.m * 2048) e.scaled_exponent-e.result c.round_pack.result) n.negative-neg.ensures c.round_pack.ensures))
     ∙ scale_is s.args.x s.args.n (le_of_lt s.requires.1)
