@@ -1,13 +1,11 @@
 -- Answers (document 01, "A delivery enters"; document 02, A.3, A.6 and A.8): the results of a payload's items, and the answer to a whole frame of
 -- each kind, where a report shows these counts. Lengths, kinds and the sender's refusals come before it, in crates/frames/specs/Frame.antt,
 -- and what is counted in crates/counts/specs/Counts.antt. Definitions only.
-use Rattle.std.specs.Prelude.{ℕ, ◌+◌, ◌*◌, ◌/◌, ◌%◌, ◌-◌, List, ◌∷◌, Bool, cond, ◌&&◌, length, get_or, drop, eqb}
+use Rattle.std.specs.Prelude.{ℕ, ◌+◌, ◌*◌, ◌/◌, ◌%◌, ◌-◌, List, ◌∷◌, Bool, cond, ◌&&◌, length, get_or, drop, eqb, Option, Some, None}
 use Rattle.words.specs.Bytes.{number_at, words_of}
 use Rattle.rounding.specs.Named.{direction_of}
 use Rattle.rounding.specs.declared.Direction.{Direction}
 use Rattle.rounding.specs.declared.Direction.TheVariants.{Nearest}
-use Rattle.rounding.specs.declared.Named.{Named}
-use Rattle.rounding.specs.declared.Named.TheVariants.{Known, Unknown}
 use Rattle.ieee754.specs.Operations.{fused_bits}
 use Rattle.exp2m1.specs.Score.{score_bits}
 use Rattle.sheet_values.specs.Values.{value_of}
@@ -18,9 +16,9 @@ use Rattle.counts.specs.declared.Counts.{Counts}
 -- ---- results
 
 -- a × b + c is rounded to nearest, and in kind 3 in the direction that the payload's first byte names; one that names none is refused
-abbrev pub named : Named → Direction
-named (Known d) = d
-named Unknown = Nearest
+abbrev pub named : Option Direction → Direction
+named (Some d) = d
+named None = Nearest
 
 unfoldable pub direction_in : ℕ → List ℕ → Direction
 direction_in kind p = cond (eqb kind 3) (named (direction_of (get_or p 0 0))) Nearest

@@ -12,7 +12,7 @@ ghost use Rattle.answers.specs.Written.{Written};
 
 use counts::{Counts, REPORT_BYTES};
 use frames::{DIRECTED, SCORES, SHEET};
-use rounding::{Direction, Named};
+use rounding::Direction;
 use sheet_values::VALUES;
 
 // The direction of a payload's triples.
@@ -23,11 +23,7 @@ fn direction_in(kind: u8, payload: &[u8]) -> Direction
     if kind != DIRECTED {
         return Direction::Nearest;
     }
-    let byte = rounding::direction_of(payload[0]);
-    match byte {
-        Named::Known(dir) => dir,
-        Named::Unknown => Direction::Nearest,
-    }
+    Direction::try_from(payload[0]).unwrap_or(Direction::Nearest)
 }
 
 // The result of the item at a place of a payload that is no sheet.

@@ -10,8 +10,8 @@ use lib.ListN.{length, get_or, drop}
 use lib.Dec.{ltb, leb, eqb}
 use borrow.Author.Tests.{lt-ltb, le-ltb, le-leb, leb-true, leb-false, eq-eqb, ne_eqb, eqb-true, eqb-false, ltb-false}
 use Rattle.rounding.specs.Named.{direction_of}
-use Rattle.rounding.specs.declared.Named.{Named}
-use Rattle.rounding.specs.declared.Named.TheVariants.{Known, Unknown}
+use Rattle.std.specs.Prelude.{Option, Some, None}
+use Rattle.rounding.specs.declared.Direction.{Direction}
 use Rattle.sheets.specs.Sheet.{or_else, sheet_refusal}
 use Rattle.sheets.proofs.FirstBad.{or_bad, sheet_by}
 use Rattle.frames.specs.Frame.{longest_body, kept, direction_refusal, is_kind, kind_of, items_from, bad_payload, refusal_to}
@@ -80,9 +80,9 @@ module _ (P : ℕ → Type 0) where
   or_by (suc m) h k = h
 
   module _ (none : P 0) (direction : P 11) where
-    direction_by : (n : Named) → P (direction_refusal n)
-    direction_by (Known d) = none
-    direction_by Unknown = direction
+    direction_by : (n : Option Direction) → P (direction_refusal n)
+    direction_by (Some d) = none
+    direction_by None = direction
 
     own_by : (kind : ℕ) (payload : List ℕ) → P ((kind_of kind).own payload)
     unfolding kind_of

@@ -1,9 +1,8 @@
 -- Frames (document 01, "A delivery enters"; document 02, A.3, A.6 and A.8): length and body, the kinds, and the sender's refusals in their order.
 -- It goes on with the answer to a whole frame in crates/answers/specs/Answers.antt. Definitions only.
-use Rattle.std.specs.Prelude.{ℕ, zero, suc, ◌+◌, ◌*◌, ◌/◌, ◌%◌, ◌-◌, List, [], ◌∷◌, Bool, false, not, cond, ◌&&◌, ◌||◌, length, get_or, drop, ltb, leb, eqb}
+use Rattle.std.specs.Prelude.{ℕ, zero, suc, ◌+◌, ◌*◌, ◌/◌, ◌%◌, ◌-◌, List, [], ◌∷◌, Bool, false, not, cond, ◌&&◌, ◌||◌, length, get_or, drop, ltb, leb, eqb, Option, Some, None}
 use Rattle.rounding.specs.Named.{direction_of}
-use Rattle.rounding.specs.declared.Named.{Named}
-use Rattle.rounding.specs.declared.Named.TheVariants.{Known, Unknown}
+use Rattle.rounding.specs.declared.Direction.{Direction}
 use Rattle.sheets.specs.Sheet.{line_bytes, or_else, sheet_refusal}
 
 -- the longest body that is answered and that the state keeps
@@ -52,9 +51,9 @@ abbrev pub plain : ℕ → Kind
 plain size = record { before = 0; own = none; item = size; bad = no_items 0 size; later = none }
 
 -- a direction byte, refused by 11 where it names none, and then triples; an empty payload has no such byte
-abbrev pub direction_refusal : Named → ℕ
-direction_refusal (Known d) = 0
-direction_refusal Unknown = 11
+abbrev pub direction_refusal : Option Direction → ℕ
+direction_refusal (Some d) = 0
+direction_refusal None = 11
 
 abbrev pub bad_direction : List ℕ → ℕ
 bad_direction [] = 0

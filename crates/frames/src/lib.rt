@@ -10,7 +10,8 @@ ghost use Rattle.frames.specs.Frame.{direction_refusal, is_kind, kind_of, items_
 ghost use Rattle.frames.specs.Body.{Body};
 ghost use Rattle.frames.specs.Part.{Part, payload_from};
 
-use rounding::{BAD_DIRECTION, Named};
+use reply::Refusal;
+use rounding::Direction;
 use sheets::LINE_BYTES;
 
 // The longest body that is answered, and not refused by its length.
@@ -88,10 +89,9 @@ fn is_kind(kind: u8) -> bool
 fn bad_direction(byte: u8) -> u8
     ensures { result ≡ direction_refusal (direction_of byte) }
 {
-    let named = rounding::direction_of(byte);
-    match named {
-        Named::Known(_) => 0,
-        Named::Unknown => BAD_DIRECTION,
+    match Direction::try_from(byte) {
+        Ok(_) => 0,
+        Err(unknown) => unknown.number(),
     }
 }
 

@@ -9,7 +9,6 @@ ghost use Rattle.std.specs.Prelude.{◌≡◌, ◌<◌};
 ghost use Rattle.std.specs.Int.{w32};
 ghost use Rattle.std.proofs.Common.{to_z};
 
-use reply::Reply;
 use vectors::Answer;
 
 // The i32 whose two's complement is n.
@@ -45,8 +44,8 @@ fn direction_of(name: &[u8]) -> u8 {
 fn fused(direction: u8, a: u64, b: u64, c: u64, want: u64) -> Answer {
     let reply = multiply_add::fused(direction, a, b, c);
     match reply {
-        Reply::Refused(_) => Answer::Malformed,
-        Reply::Bits(got) => Answer::Found { got, want },
+        Err(_) => Answer::Malformed,
+        Ok(got) => Answer::Found { got, want },
     }
 }
 

@@ -2,18 +2,17 @@
 use Prim.Native.Nat.{ℕ}
 use mathlib.Core.Path.{◌≡◌, refl}
 use mathlib.Core.List.{List, [], ◌∷◌, map}
-use Rattle.reply.specs.declared.Reply.{Reply}
-use Rattle.reply.specs.declared.Reply.TheVariants.{Refused, Bits}
+use Rattle.std.specs.Prelude.{Result, Ok, Err}
 use Rattle.ieee754.specs.Operations.{fused_bits}
 use Rattle.multiply_add.specs.Fused.{fused_reply}
 
 -- for the bytes 0 to 4 and 255
-abbrev each : ℕ → ℕ → ℕ → List Reply
+abbrev each : ℕ → ℕ → ℕ → List (Result ℕ ℕ)
 each a b c = map (λ direction. fused_reply direction a b c) (0 ∷ 1 ∷ 2 ∷ 3 ∷ 4 ∷ 255 ∷ [])
 
 -- four replies, and two refusals
-abbrev replies : ℕ → ℕ → ℕ → ℕ → List Reply
-replies nearest towardZero up down = Bits nearest ∷ Bits towardZero ∷ Bits up ∷ Bits down ∷ Refused 11 ∷ Refused 11 ∷ []
+abbrev replies : ℕ → ℕ → ℕ → ℕ → List (Result ℕ ℕ)
+replies nearest towardZero up down = Ok nearest ∷ Ok towardZero ∷ Ok up ∷ Ok down ∷ Err 11 ∷ Err 11 ∷ []
 
 -- 1 + 2^-1074; -1 - 2^-1074; 1 * 1 - 1; the largest number doubled, and negative; 0 * infinity plus a number and plus a NaN
 pub in_each_lem :

@@ -10,18 +10,17 @@ ghost use Rattle.std.specs.Prelude.{◌≡◌, ℕ, ◌+◌, ◌*◌, ◌^◌, �
 ghost use Rattle.std.specs.Float.Ieee.{to_bits, of_bits};
 ghost use Rattle.std.specs.Float.{binary64};
 ghost use Rattle.wide.specs.Words.{value};
+ghost use Rattle.reply.specs.Told.{numbered};
 ghost use Rattle.rounding.specs.declared.Direction.{Direction};
 ghost use Rattle.rounding.specs.declared.Direction.TheVariants.{Nearest};
+ghost use Rattle.rounding.specs.Named.{refusal_of};
 ghost use Rattle.rounding.specs.Rounding.{round_to};
 ghost use Rattle.ieee754.specs.Operations.{zero_sign, sum_to, plus, exactly, infinite, fused_bits};
 ghost use Rattle.multiply_add.specs.Fused.{fused_reply};
 ghost use Rattle.operands.specs.Machine.{magnitude, Regular, Ready, product_size, addend_size, Addends, RoundsSum, fused_floats};
 
-use operands::{NAN, Parts, is_regular, negative, pick_sign, quiet, read, unlike_signs};
-use reply::Reply;
-use rounding::{
-    BAD_DIRECTION, Direction, INFINITY, Named, SIGN, round_normal, round_wide, sign_bit,
-};
+use operands::{NAN, Parts, is_regular, negative, quiet, read, unlike_signs};
+use rounding::{Direction, INFINITY, SIGN, UnknownDirection, round_normal, round_wide, sign_bit};
 use wide::Wide;
 
 // ---- finite numbers that are not zero
@@ -30,12 +29,7 @@ use wide::Wide;
 fn zero_sign(dir: Direction) -> bool
     ensures { result ≡ zero_sign dir }
 {
-    match dir {
-        Direction::Nearest => false,
-        Direction::TowardZero => false,
-        Direction::Up => false,
-        Direction::Down => true,
-    }
+    dir == Direction::Down
 }
 
 // w at the exponent e, rounded and packed; zero is an exact zero sum of unlike signs.
@@ -79,7 +73,7 @@ fn add_signed(dir: Direction, s: bool, x: Wide, t: bool, y: Wide, e: u64) -> u64
     let down = wide::sub(x, y);
     let under = SIGN <= down.hi;
     let w = wide::pick(s == t, sum, wide::pick(under, up, down));
-    round_usual(dir, pick_sign(under, t, s), w, e)
+    round_usual(dir, wide::pick(under, t, s), w, e)
 }
 
 // ±p * 2^pe ±q * 2^qe, rounded and packed.
@@ -90,14 +84,14 @@ fn align(dir: Direction, s: bool, p: Wide, pe: u64, t: bool, q: Wide, qe: u64) -
     let swap = pe < qe;
     let x = wide::pick(swap, q, p);
     let y = wide::pick(swap, p, q);
-    let xe = wide::pick_word(swap, qe, pe);
-    let ye = wide::pick_word(swap, pe, qe);
+    let xe = wide::pick(swap, qe, pe);
+    let ye = wide::pick(swap, pe, qe);
     let shifted = wide::shift_right_jam(y, xe - ye);
     add_signed(
         dir,
-        pick_sign(swap, t, s),
+        wide::pick(swap, t, s),
         x,
-        pick_sign(swap, s, t),
+        wide::pick(swap, s, t),
         shifted,
         xe,
     )
@@ -264,12 +258,9 @@ pub fn fused_nearest(a: u64, b: u64, c: u64) -> u64
 }
 
 // a * b + c, rounded once in the direction that the byte names; a byte that names none is refused.
-pub fn fused(direction: u8, a: u64, b: u64, c: u64) -> Reply
-    ensures { result ≡ fused_reply direction a b c }
+pub fn fused(direction: u8, a: u64, b: u64, c: u64) -> Result<u64, UnknownDirection>
+    ensures { numbered refusal_of result ≡ fused_reply direction a b c }
 {
-    let named = rounding::direction_of(direction);
-    match named {
-        Named::Known(dir) => Reply::Bits(fused_in(a, b, c, dir)),
-        Named::Unknown => Reply::Refused(BAD_DIRECTION),
-    }
+    let dir = Direction::try_from(direction)?;
+    Ok(fused_in(a, b, c, dir))
 }

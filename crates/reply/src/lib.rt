@@ -1,27 +1,32 @@
-// What a call replies that gives a float or refuses: `constant`, `fused` in a direction and `score_with`.
+// A reply that is a float or a refusal, as of `constant`, `fused` in a direction and `score_with`: a Result of the float's pattern, whose
+// error has a number.
 //
 // tell promises the form of a reply for C: a number, and a result behind a pointer (specs/Told.antt).
 #![tactic(auto)]
 
-ghost use Rattle.std.specs.Prelude.{◌≡◌};
-ghost use Rattle.reply.specs.Told.{number, content};
+ghost use Rattle.std.specs.Prelude.{◌≡◌, ℕ, ◌<◌, IsOk};
+ghost use Rattle.reply.specs.Told.{numbered, number, content};
 
-#[derive(Clone, Copy)]
-pub enum Reply {
-    // The refusal's number.
-    Refused(u8),
-    // The float's pattern.
-    Bits(u64),
+// An error that the documents give a number, which is not that of a float.
+pub trait Refusal: Copy {
+    ghost number: { Self → ℕ };
+
+    fn number(self) -> u8
+        ensures { result ≡ number self };
+
+    ghost counts: { (e : Self) → 0 < number e };
 }
 
 // Tells C of a reply. Where it is a refusal, the result keeps its content.
-pub fn tell(reply: Reply, out: &mut u64) -> u8
-    ensures number { result ≡ number reply }
-    ensures content { out.new ≡ content reply out.old }
+pub fn tell<E: Refusal>(reply: Result<u64, E>, out: &mut u64) -> u8
+    ensures number { result ≡ number (numbered E.number reply) }
+    ensures content { out.new ≡ content (numbered E.number reply) out.old }
+    // Only a float has the number 0.
+    ensures apart { result ≡ 0 → IsOk reply }
 {
     match reply {
-        Reply::Refused(number) => number,
-        Reply::Bits(bits) => {
+        Err(refusal) => refusal.number(),
+        Ok(bits) => {
             *out = bits;
             0
         }

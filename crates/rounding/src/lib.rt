@@ -4,19 +4,22 @@
 #![tactic(auto)]
 
 ghost use Rattle.std.specs.Prelude.{◌≡◌, ℕ, ◌+◌, ◌-◌, ◌*◌, ◌%◌, ◌^◌, ◌≤◌, ◌<◌, true, false};
+ghost use Rattle.std.specs.Result.{result_ok};
+ghost use Rattle.std.proofs.Common.{rules};
 ghost use Rattle.std.specs.Int.Count.{count_leading_zeros};
 ghost use Rattle.std.specs.Float.Ieee.{to_bits};
 ghost use Rattle.std.specs.Float.{binary64};
 ghost use Rattle.wide.specs.Words.{value, jammed};
 ghost use Rattle.rounding.specs.declared.Direction.TheVariants.{Nearest};
 ghost use Rattle.rounding.specs.Rounding.{whole, round_to};
-ghost use Rattle.rounding.specs.Named.{direction_of};
+ghost use Rattle.rounding.specs.Named.{direction_of, refusal_of};
 ghost use Rattle.rounding.specs.Machine.{sign_bit, overflow_bits, bounded_bits, packed, to_nearest, rounds_away, increment, normal_bits, Stands, Rounds, RoundsWord};
 
+use reply::Refusal;
 use wide::Wide;
 
 // The rounding-direction attributes of 4.3.
-#[derive(Clone, Copy)]
+#[derive(Clone, Copy, Debug, PartialEq, Eq)]
 pub enum Direction {
     Nearest,
     TowardZero,
@@ -24,15 +27,19 @@ pub enum Direction {
     Down,
 }
 
-// What a byte names (document 02, A.3).
-#[derive(Clone, Copy)]
-pub enum Named {
-    Known(Direction),
-    Unknown,
-}
+// A byte that names no direction.
+#[derive(Clone, Copy, Debug, PartialEq, Eq)]
+pub struct UnknownDirection;
 
-// The number that refuses a byte which names no direction.
-pub const BAD_DIRECTION: u8 = 11;
+impl Refusal for UnknownDirection {
+    ghost number = { refusal_of };
+
+    ghost counts = { Prim.search rules };
+
+    fn number(self) -> u8 {
+        11
+    }
+}
 
 // The pattern of a sign alone.
 pub const SIGN: u64 = 0x8000000000000000;
@@ -43,15 +50,20 @@ const LARGEST: u64 = 0x7fefffffffffffff;
 // The leading digit of a significand: one step of the exponent field.
 pub const LEADING: u64 = 0x10000000000000;
 
-pub fn direction_of(byte: u8) -> Named
-    ensures { result ≡ direction_of byte }
-{
-    match byte {
-        0 => Named::Known(Direction::Nearest),
-        1 => Named::Known(Direction::TowardZero),
-        2 => Named::Known(Direction::Up),
-        3 => Named::Known(Direction::Down),
-        _ => Named::Unknown,
+// What a byte names (document 02, A.3).
+impl TryFrom<u8> for Direction {
+    type Error = UnknownDirection;
+
+    ghost try_from_gives = { λ byte r. result_ok r ≡ direction_of byte };
+
+    fn try_from(byte: u8) -> Result<Self, UnknownDirection> {
+        match byte {
+            0 => Ok(Direction::Nearest),
+            1 => Ok(Direction::TowardZero),
+            2 => Ok(Direction::Up),
+            3 => Ok(Direction::Down),
+            _ => Err(UnknownDirection),
+        }
     }
 }
 
@@ -65,34 +77,19 @@ pub fn sign_bit(neg: bool) -> u64
 fn to_nearest(dir: Direction) -> bool
     ensures { result ≡ to_nearest dir }
 {
-    match dir {
-        Direction::Nearest => true,
-        Direction::TowardZero => false,
-        Direction::Up => false,
-        Direction::Down => false,
-    }
+    dir == Direction::Nearest
 }
 
 fn is_up(dir: Direction) -> bool
     ensures { result ≡ rounds_away dir false }
 {
-    match dir {
-        Direction::Nearest => false,
-        Direction::TowardZero => false,
-        Direction::Up => true,
-        Direction::Down => false,
-    }
+    dir == Direction::Up
 }
 
 fn is_down(dir: Direction) -> bool
     ensures { result ≡ rounds_away dir true }
 {
-    match dir {
-        Direction::Nearest => false,
-        Direction::TowardZero => false,
-        Direction::Up => false,
-        Direction::Down => true,
-    }
+    dir == Direction::Down
 }
 
 // Whether a directed rounding moves a size away from zero.
@@ -105,8 +102,8 @@ fn rounds_away(dir: Direction, neg: bool) -> bool
 fn overflow_bits(dir: Direction, neg: bool) -> u64
     ensures { result ≡ overflow_bits dir neg }
 {
-    let directed = wide::pick_word(rounds_away(dir, neg), INFINITY, LARGEST);
-    wide::pick_word(to_nearest(dir), INFINITY, directed)
+    let directed = wide::pick(rounds_away(dir, neg), INFINITY, LARGEST);
+    wide::pick(to_nearest(dir), INFINITY, directed)
 }
 
 // The size of a result, which is an infinity's or more where it overflows.
@@ -140,8 +137,8 @@ fn rounding_increment(dir: Direction, neg: bool, odd: u64, k: u64) -> u64
     ensures { result ≡ increment dir neg odd k }
 {
     let nearest = ones(k - 1) + odd;
-    let directed = wide::pick_word(rounds_away(dir, neg), ones(k), 0);
-    wide::pick_word(to_nearest(dir), nearest, directed)
+    let directed = wide::pick(rounds_away(dir, neg), ones(k), 0);
+    wide::pick(to_nearest(dir), nearest, directed)
 }
 
 // m / 2^k as a whole number.

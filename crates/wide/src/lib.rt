@@ -88,8 +88,8 @@ pub fn is_zero(x: Wide) -> bool
     if x.hi == 0 { x.lo == 0 } else { false }
 }
 
-// One of two numbers, by a conditional move: what depends on the operands' bits must not become a branch.
-pub fn pick(b: bool, x: Wide, y: Wide) -> Wide
+// One of two values, by a conditional move: what depends on the operands' bits must not become a branch.
+pub fn pick<T: Copy>(b: bool, x: T, y: T) -> T
     ensures { result ≡ (if b then x else y) }
 {
     if b { x } else { y }

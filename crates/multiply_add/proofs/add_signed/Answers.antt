@@ -52,4 +52,4 @@ returns c =
     picked_answer a.dir a.s a.t l.add-sum.result l.sub-up.result l.sub-down.result m.sum m.up m.down h c.round_usual.result
     (beq a.s a.t) (under l) refl (under_is l) c.requires.1
     (subst (λ (w : Wide). RoundsSum a.dir (cond (under l) a.t a.s) (value w) a.e c.round_usual.result) (c.pick-w.ensures ∙ ap (λ (z : Wide). cond (beq a.s a.t) l.add-sum.result z) c.pick.ensures)
-    (subst (λ (b : Bool). RoundsSum a.dir b (value c.pick-w.result) a.e c.round_usual.result) c.pick_sign.ensures c.round_usual.ensures))
+    (subst (λ (b : Bool). RoundsSum a.dir b (value c.pick-w.result) a.e c.round_usual.result) c.pick-2.ensures c.round_usual.ensures))

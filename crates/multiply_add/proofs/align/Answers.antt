@@ -23,7 +23,7 @@ picked e f g = ap₂ (λ (x : Wide) (y : ℕ). jammed (value x) (2 ^ y)) e (ap�
 pub overflow_sub-xe : goal.overflow_sub-xe
 overflow_sub-xe c =
     let a = c.args in
-    subst (λ (x : ℕ). x ≤ c.pick_word-xe.result) (sym c.pick_word-ye.ensures) (subst (λ (x : ℕ). cond (ltb a.pe a.qe) a.pe a.qe ≤ x) (sym c.pick_word-xe.ensures) (exponent_pick a.p a.q a.pe a.qe (ltb a.pe a.qe) refl))
+    subst (λ (x : ℕ). x ≤ c.pick-xe.result) (sym c.pick-ye.ensures) (subst (λ (x : ℕ). cond (ltb a.pe a.qe) a.pe a.qe ≤ x) (sym c.pick-xe.ensures) (exponent_pick a.p a.q a.pe a.qe (ltb a.pe a.qe) refl))
 
 pub add_signed-requires : goal.add_signed-requires
 add_signed-requires c =
@@ -31,7 +31,7 @@ add_signed-requires c =
     let b = ltb a.pe a.qe in
     let X : Ready (value c.pick-x.result) = subst (λ (w : Wide). Ready (value w)) (sym c.pick-x.ensures) (ready_pick a.p a.q a.pe a.qe b c.requires.0 c.requires.1) in
     let Y : Ready (value c.pick-y.result) = subst (λ (w : Wide). Ready (value w)) (sym c.pick-y.ensures) (ready_pick a.q a.p a.qe a.pe b c.requires.1 c.requires.0) in
-    (subst (λ (n : ℕ). n ≤ 4194) (sym c.pick_word-xe.ensures) (most b a.pe a.qe c.requires.2 c.requires.3), ready_pos X, X.high, ready_shifted (c.pick_word-xe.result - c.pick_word-ye.result) Y c.shift_right_jam-shifted.ensures)
+    (subst (λ (n : ℕ). n ≤ 4194) (sym c.pick-xe.ensures) (most b a.pe a.qe c.requires.2 c.requires.3), ready_pos X, X.high, ready_shifted (c.pick-xe.result - c.pick-ye.result) Y c.shift_right_jam-shifted.ensures)
 
 pub returns : goal.returns
 returns c =
@@ -39,7 +39,7 @@ returns c =
     let a = c.args in
     let b = ltb a.pe a.qe in
     align_answer a.p a.q a.pe a.qe a.dir a.s a.t b (value c.shift_right_jam-shifted.result) c.add_signed.result A B d refl c.requires.0 c.requires.1
-    (c.shift_right_jam-shifted.ensures ∙ picked c.pick-y.ensures c.pick_word-xe.ensures c.pick_word-ye.ensures) D p q
+    (c.shift_right_jam-shifted.ensures ∙ picked c.pick-y.ensures c.pick-xe.ensures c.pick-ye.ensures) D p q
     (λ X Y k h.
-    c.add_signed.ensures X Y k (subst (λ (w : Wide). Addends X Y k (value w) (value c.shift_right_jam-shifted.result) c.pick_word-xe.result) (sym c.pick-x.ensures) (subst (λ (n : ℕ). Addends X Y k (value (cond b a.q a.p)) (value c.shift_right_jam-shifted.result) n) (sym c.pick_word-xe.ensures) h))
-    ∙ ap₂ (λ (t u : Bool). to_bits binary64 (sum_to a.dir t X u Y k)) c.pick_sign.ensures c.pick_sign-2.ensures)
+    c.add_signed.ensures X Y k (subst (λ (w : Wide). Addends X Y k (value w) (value c.shift_right_jam-shifted.result) c.pick-xe.result) (sym c.pick-x.ensures) (subst (λ (n : ℕ). Addends X Y k (value (cond b a.q a.p)) (value c.shift_right_jam-shifted.result) n) (sym c.pick-xe.ensures) h))
+    ∙ ap₂ (λ (t u : Bool). to_bits binary64 (sum_to a.dir t X u Y k)) c.pick.ensures c.pick-2.ensures)
