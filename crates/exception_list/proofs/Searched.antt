@@ -10,8 +10,7 @@ use lib.Dec.{ltb}
 use lib.ListN.{length}
 use lib.Ieee.{Float, eq, lt}
 use Rattle.exceptions.specs.declared.Entry.{Entry}
-use Rattle.exceptions.specs.declared.Found.{Found}
-use Rattle.exceptions.specs.declared.Found.TheVariants.{Reply, Nothing}
+use Rattle.std.specs.Prelude.{Option, Some, None}
 use Rattle.exceptions.specs.Lookup.{find, nth, entries_from}
 use Rattle.exceptions.proofs.Halving.{Rising, hit_at, left_at, right_at, empty}
 use Rattle.exception_list.specs.declared.Search.{Search}
@@ -60,9 +59,9 @@ ended : (first past n : ℕ) (b : Bool) → ltb first past ≡ b → n ≤ cond 
 ended first past n true e h k = let w = ltb-true first past e in let z : ⊥ = omega arith in absurd z
 ended first past n false e h k = ltb-false first past e
 
-or_nothing : (f : Found) → or f Nothing ≡ f
-or_nothing (Reply r) = refl
-or_nothing Nothing = refl
+or_nothing : (f : Option Float) → or f None ≡ f
+or_nothing (Some r) = refl
+or_nothing None = refl
 
 pub end : (list : List Entry) (s : Search) → Searches s → length list ≤ s.at → s.past ≤ length list → s.found ≡ searched list s
 unfolding searched middle
@@ -82,15 +81,15 @@ module _ (list : List Entry) (s : Search) (S : Searches s) (h : s.at < nowhere) 
   unfolding searched search_next search_in
   looks true c p q =
       let w = inside s S h in
-      let f : s.found ≡ Nothing = S.goes_on (omega arith) in
+      let f : s.found ≡ None = S.goes_on (omega arith) in
       rw (p, f) (hit_at (nth list) s.first s.past rising s.x s.at w.0 w.1 p)
   looks false true p q =
       let w = inside s S h in
-      let f : s.found ≡ Nothing = S.goes_on (omega arith) in
+      let f : s.found ≡ None = S.goes_on (omega arith) in
       rw (p, q, f) (left_at (nth list) s.first s.past rising s.x s.at w.0 w.1 q)
   looks false false p q =
       let w = inside s S h in
-      let f : s.found ≡ Nothing = S.goes_on (omega arith) in
+      let f : s.found ≡ None = S.goes_on (omega arith) in
       rw (p, q, f) (right_at (nth list) s.first s.past rising s.x s.at w.0 w.1 p q)
 
   pub next : searched list (search_next s (nth list s.at)) ≡ searched list s

@@ -4,7 +4,7 @@ use Rattle.std.specs.Float.Ieee.{eq, lt}
 use Rattle.std.specs.Float.Ieee.Scale.{finite}
 use Rattle.pair.specs.Pair.{bits}
 use Rattle.exceptions.specs.declared.Entry.{Entry}
-use Rattle.exceptions.specs.declared.Found.{Found}
+use Rattle.std.specs.Prelude.{Option}
 use Rattle.exceptions.specs.Lookup.{find, Finds}
 
 -- "Entries must be finite", "with no x equal to zero"
@@ -37,4 +37,4 @@ refusal_of list = cond (ltb longest (length list)) too_long (cond (all_good list
 
 -- in a good list no more than one entry equals x: `Finds` holds of what is found, and of nothing else
 abbrev pub Settles : Type 0
-Settles = (list : List Entry) → refusal_of list ≡ 0 → (x : Float) (f : Found) → Finds list x f → f ≡ find list x
+Settles = (list : List Entry) → refusal_of list ≡ 0 → (x : Float) (f : Option Float) → Finds list x f → f ≡ find list x

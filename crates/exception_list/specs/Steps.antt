@@ -3,8 +3,7 @@ use Rattle.std.specs.Prelude.{◌≡◌, Bool, true, ◌&&◌, cond, List, [], �
 use Rattle.std.specs.Float.{inf}
 use Rattle.std.specs.Float.Ieee.{eq, lt}
 use Rattle.exceptions.specs.declared.Entry.{Entry}
-use Rattle.exceptions.specs.declared.Found.{Found}
-use Rattle.exceptions.specs.declared.Found.TheVariants.{Reply, Nothing}
+use Rattle.std.specs.Prelude.{Option, Some, None}
 use Rattle.exceptions.specs.Lookup.{reply_of, find, nth, entries_from}
 use Rattle.exception_list.specs.declared.Check.{Check}
 use Rattle.exception_list.specs.declared.Search.{Search}
@@ -43,22 +42,22 @@ unfoldable pub middle : ℕ → ℕ → ℕ
 middle first past = cond (ltb first past) (first + (past - first) / 2) nowhere
 
 unfoldable pub search_in : ℕ → ℕ → Float → Search
-search_in first past x = record { at = middle first past; first = first; past = past; x = x; found = Nothing }
+search_in first past x = record { at = middle first past; first = first; past = past; x = x; found = None }
 
 unfoldable pub search_next : Search → Entry → Search
 search_next s e =
-    cond (eq s.x e.x) (record { at = nowhere; first = s.at; past = s.at; x = s.x; found = Reply (reply_of e) })
+    cond (eq s.x e.x) (record { at = nowhere; first = s.at; past = s.at; x = s.x; found = Some (reply_of e) })
     (cond (lt s.x e.x) (search_in s.first s.at s.x) (search_in (s.at + 1) s.past s.x))
 
 -- a search as `search_in` and `search_next` make it
 pub record Searches (s : Search) : Type 0 where
   pub halves : s.at ≡ middle s.first s.past
-  pub goes_on : s.first < s.past → s.found ≡ Nothing
+  pub goes_on : s.first < s.past → s.found ≡ None
 
-abbrev pub or : Found → Found → Found
-or (Reply r) f = Reply r
-or Nothing f = f
+abbrev pub or : Option Float → Option Float → Option Float
+or (Some r) f = Some r
+or None f = f
 
 -- what a search that has come to s ends in
-unfoldable pub searched : List Entry → Search → Found
+unfoldable pub searched : List Entry → Search → Option Float
 searched list s = or s.found (find (entries_from (nth list) s.first (s.past - s.first)) s.x)

@@ -11,7 +11,7 @@ ghost use Rattle.std.specs.Float.Ieee.Scale.{finite};
 ghost use Rattle.exception_list.specs.List.{is_good};
 ghost use Rattle.exception_list.specs.Steps.{may_follow, refusal_after, check_start, check_next, search_in, search_next};
 
-use exceptions::{Entry, Found};
+use exceptions::Entry;
 
 // The refusals of a list, and the number of entries up to which it is not too long.
 const TOO_LONG: u8 = 12;
@@ -119,7 +119,7 @@ pub struct Search {
     pub first: usize,
     pub past: usize,
     pub x: f64,
-    pub found: Found,
+    pub found: Option<f64>,
 }
 
 fn search_in(first: usize, past: usize, x: f64) -> Search
@@ -131,7 +131,7 @@ fn search_in(first: usize, past: usize, x: f64) -> Search
             first,
             past,
             x,
-            found: Found::Nothing,
+            found: None,
         };
     }
     Search {
@@ -139,7 +139,7 @@ fn search_in(first: usize, past: usize, x: f64) -> Search
         first,
         past,
         x,
-        found: Found::Nothing,
+        found: None,
     }
 }
 
@@ -161,7 +161,7 @@ pub fn search_next(s: Search, e: Entry) -> Search
             first: s.at,
             past: s.at,
             x: s.x,
-            found: Found::Reply(e.hi + e.lo),
+            found: Some(e.hi + e.lo),
         };
     }
     if s.x < e.x {

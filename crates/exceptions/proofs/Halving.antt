@@ -9,7 +9,7 @@ use lib.Dec.{T}
 use lib.Ieee.{Float, eq, lt}
 use lib.Ieee.Scale.{finite}
 use Rattle.exceptions.specs.declared.Entry.{Entry}
-use Rattle.exceptions.specs.declared.Found.TheVariants.{Reply, Nothing}
+use Rattle.std.specs.Prelude.{Some, None}
 use Rattle.exceptions.specs.Lookup.{reply_of}
 use Rattle.exceptions.proofs.Order.{miss_below, miss_above, miss_at, hit_not_below}
 use Rattle.exceptions.proofs.Scan.{scan, none, skip, cut, hit}
@@ -32,7 +32,7 @@ module _ (entry : ℕ → Entry) (first past : ℕ) (R : Rising entry first past
   finite_m : T (finite (entry m).x)
   finite_m = R.finite_at m a b
 
-  pub hit_at : eq x (entry m).x ≡ true → Reply (reply_of (entry m)) ≡ scan entry first (past - first) x
+  pub hit_at : eq x (entry m).x ≡ true → Some (reply_of (entry m)) ≡ scan entry first (past - first) x
   hit_at e =
       sym (hit entry x (m - first) (past - suc m) (past - first) first m (omega arith) (omega arith)
       (λ j p q. miss_below x (entry j).x (entry m).x (R.finite_at j p (omega arith)) finite_m (R.rises j m p q b) (hit_not_below x (entry m).x finite_m (yes e))) e)
@@ -57,5 +57,5 @@ module _ (entry : ℕ → Entry) (first past : ℕ) (R : Rising entry first past
         | inr o ↦ miss_below x (entry j).x (entry m).x (R.finite_at j p (omega arith)) finite_m (R.rises j m p o b) (nay e)
       ]))
 
-pub empty : (entry : ℕ → Entry) (first past : ℕ) (x : Float) → past ≤ first → Nothing ≡ scan entry first (past - first) x
+pub empty : (entry : ℕ → Entry) (first past : ℕ) (x : Float) → past ≤ first → None ≡ scan entry first (past - first) x
 empty entry first past x h = sym (none entry x (past - first) first (λ j p q. absurd (let z : ⊥ = omega arith in z)))

@@ -4,4 +4,3 @@ pub mod Ascent
 pub mod Scan
 pub mod Halving
 mod Middle
-pub mod Replies

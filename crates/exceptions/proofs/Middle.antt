@@ -2,15 +2,14 @@
 use mathlib.Core.Path.{◌≡◌, ap, ◌∙◌, subst}
 use mathlib.Core.Bool.{true, false}
 use mathlib.Core.List.{List}
-use Prim.Native.Nat.{ℕ, ◌+◌, ◌-◌, ◌*◌, ◌/◌, ◌<◌, ◌≤◌}
+use Prim.Native.Nat.{ℕ, ◌+◌, ◌-◌, ◌*◌, ◌/◌, ◌<◌}
 use native.Mathlib.Omega.{arith}
 use lib.ListN.{get_or}
 use lib.Ieee.{Float, nan, binary64, add, eq, lt}
 use Rattle.exceptions.specs.Table.{exceptions}
-use Rattle.exceptions.specs.declared.Found.{Found}
-use Rattle.exceptions.specs.declared.Found.TheVariants.{Reply}
+use Rattle.std.specs.Prelude.{Option, Some}
 use Rattle.exceptions.specs.Lookup.{entry_at, Part}
-use Rattle.exceptions.proofs.Ascent.{ascending, end_le}
+use Rattle.exceptions.proofs.Ascent.{ascending}
 use Rattle.exceptions.proofs.Scan.{scan}
 use Rattle.exceptions.proofs.Halving as halving
 use Rattle.exceptions.proofs.Halving.{Rising}
@@ -29,17 +28,17 @@ rising S =
 
 module _ (table : List Float) (E : table ≡ exceptions) (first past : ℕ) (x : Float) (S : Part first past) (h : first < past) where
   pub hit_at : eq x (get_or table (middle first past * 3) nan) ≡ true
-      → Reply (add binary64 (get_or table (middle first past * 3 + 1) nan) (get_or table (middle first past * 3 + 2) nan)) ≡ scan entry_at first (past - first) x
+      → Some (add binary64 (get_or table (middle first past * 3 + 1) nan) (get_or table (middle first past * 3 + 2) nan)) ≡ scan entry_at first (past - first) x
   unfolding entry_at
   hit_at e =
-      ap (λ (t : List Float). Reply (add binary64 (get_or t (middle first past * 3 + 1) nan) (get_or t (middle first past * 3 + 2) nan))) E
+      ap (λ (t : List Float). Some (add binary64 (get_or t (middle first past * 3 + 1) nan) (get_or t (middle first past * 3 + 2) nan))) E
       ∙ halving.hit_at entry_at first past (rising S) x (middle first past) (omega arith) (omega arith) (subst (λ (t : List Float). eq x (get_or t (middle first past * 3) nan) ≡ true) E e)
 
-  pub left_at : {r : Found} → lt x (get_or table (middle first past * 3) nan) ≡ true → r ≡ scan entry_at first (middle first past - first) x → r ≡ scan entry_at first (past - first) x
+  pub left_at : {r : Option Float} → lt x (get_or table (middle first past * 3) nan) ≡ true → r ≡ scan entry_at first (middle first past - first) x → r ≡ scan entry_at first (past - first) x
   unfolding entry_at
   left_at e r = r ∙ halving.left_at entry_at first past (rising S) x (middle first past) (omega arith) (omega arith) (subst (λ (t : List Float). lt x (get_or t (middle first past * 3) nan) ≡ true) E e)
 
-  pub right_at : {r : Found} → eq x (get_or table (middle first past * 3) nan) ≡ false → lt x (get_or table (middle first past * 3) nan) ≡ false
+  pub right_at : {r : Option Float} → eq x (get_or table (middle first past * 3) nan) ≡ false → lt x (get_or table (middle first past * 3) nan) ≡ false
       → r ≡ scan entry_at (middle first past + 1) (past - (middle first past + 1)) x → r ≡ scan entry_at first (past - first) x
   unfolding entry_at
   right_at d e r =
@@ -47,9 +46,3 @@ module _ (table : List Float) (E : table ≡ exceptions) (first past : ℕ) (x :
       ∙ halving.right_at entry_at first past (rising S) x (middle first past) (omega arith) (omega arith)
       (subst (λ (t : List Float). eq x (get_or t (middle first past * 3) nan) ≡ false) E d)
       (subst (λ (t : List Float). lt x (get_or t (middle first past * 3) nan) ≡ false) E e)
-
-pub narrow : {first past : ℕ} (first' past' : ℕ) → first ≤ first' → past' ≤ past → Part first past → Part first' past'
-narrow first' past' p q S = let a = S.from in let b = S.upto in record { of = S.of; from = omega arith; upto = omega arith }
-
-pub part_end : {first past : ℕ} → Part first past → past ≤ 208
-part_end S = let a = S.upto in let b = end_le S.of in omega arith

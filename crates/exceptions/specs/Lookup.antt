@@ -1,5 +1,5 @@
 -- What a lookup finds in a list of entries, and the order of the table (document 01, "Exception entries"). Definitions only.
-use Rattle.std.specs.Prelude.{◌≡◌, cond, List, [], ◌∷◌, ℕ, zero, suc, ◌+◌, ◌-◌, ◌*◌, ◌≤◌, ◌<◌, T, get_or, length, Float}
+use Rattle.std.specs.Prelude.{◌≡◌, cond, Option, None, Some, List, [], ◌∷◌, ℕ, zero, suc, ◌+◌, ◌-◌, ◌*◌, ◌≤◌, ◌<◌, T, get_or, length, Float}
 use Rattle.std.specs.Float.{nan, binary64}
 use Rattle.std.specs.Float.Ieee.{add, eq, lt}
 use Rattle.std.specs.Float.Ieee.Scale.{finite}
@@ -7,8 +7,6 @@ use Rattle.exceptions.specs.Table.{exceptions}
 use Rattle.exceptions.specs.declared.Entry.{Entry}
 use Rattle.exceptions.specs.declared.Stretch.{Stretch}
 use Rattle.exceptions.specs.declared.Stretch.TheVariants.{First, Tiny, Wide}
-use Rattle.exceptions.specs.declared.Found.{Found}
-use Rattle.exceptions.specs.declared.Found.TheVariants.{Reply, Nothing}
 
 -- ---- any list of entries
 -- an entry's hi + lo rounded
@@ -16,23 +14,18 @@ abbrev pub reply_of : Entry → Float
 reply_of e = add binary64 e.hi e.lo
 
 -- the reply of the first entry whose x equals the given one
-unfoldable pub find : List Entry → Float → Found
-find [] x = Nothing
-find (e ∷ es) x = cond (eq x e.x) (Reply (reply_of e)) (find es x)
-
--- the reply of an entry that was found, or else r
-abbrev pub or_else : Found → Float → Float
-or_else (Reply e) r = e
-or_else Nothing r = r
+unfoldable pub find : List Entry → Float → Option Float
+find [] x = None
+find (e ∷ es) x = cond (eq x e.x) (Some (reply_of e)) (find es x)
 
 -- the entry i of a list; past its end one that no x equals
 abbrev pub nth : List Entry → ℕ → Entry
 nth list i = get_or list i (record { x = nan; hi = nan; lo = nan })
 
 -- an entry is found exactly when some entry of the list equals x, and then the reply is its hi + lo rounded
-pub data Finds (list : List Entry) (x : Float) : Found → Type 0 where
-  present : (i : ℕ) → i < length list → T (eq x (nth list i).x) → Finds list x (Reply (reply_of (nth list i)))
-  absent : ((i : ℕ) → i < length list → T (eq x (nth list i).x) → ⊥) → Finds list x Nothing
+pub data Finds (list : List Entry) (x : Float) : Option Float → Type 0 where
+  present : (i : ℕ) → i < length list → T (eq x (nth list i).x) → Finds list x (Some (reply_of (nth list i)))
+  absent : ((i : ℕ) → i < length list → T (eq x (nth list i).x) → ⊥) → Finds list x None
 
 -- ---- the table
 -- the entry i: its x, hi and lo

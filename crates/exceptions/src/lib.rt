@@ -1,6 +1,6 @@
 // The exceptional cases of exp2m1, hard to round with double-double arithmetic, and their lookup.
 //
-// exception promises the reply of the entry of a stretch whose x equals the one asked for, or that there is no such entry
+// exception promises the reply of the entry of a stretch whose x equals the one asked for, or None where there is no such entry
 // (specs/Lookup.antt). The entries are those of specs/Table.antt; each stretch of them ascends strictly by x (Ascending). The definitions
 // of a lookup, and the laws of a search by halves, are about any list of entries: exception_list uses them for a lent one.
 #![tactic(auto)]
@@ -30,19 +30,13 @@ pub enum Stretch {
     Wide,
 }
 
-#[derive(Clone, Copy)]
-pub enum Found {
-    Reply(f64),
-    Nothing,
-}
-
 // The reply for x from the entries first to past - 1 of the table, which are sorted by input value.
-fn lookup_exception(table: &[f64; 624], first: usize, past: usize, x: f64) -> Found
+fn lookup_exception(table: &[f64; 624], first: usize, past: usize, x: f64) -> Option<f64>
     requires { (table.now ≡ exceptions) × Part first past }
     ensures { result ≡ find (entries_from entry_at first (past - first)) x }
 {
     if first >= past {
-        return Found::Nothing;
+        return None;
     }
     // Invariant: if x is an exceptional case, its entry is one of these
     let middle = first + (past - first) / 2;
@@ -51,7 +45,7 @@ fn lookup_exception(table: &[f64; 624], first: usize, past: usize, x: f64) -> Fo
     if x == input {
         let hi = table[at + 1];
         let lo = table[at + 2];
-        return Found::Reply(hi + lo);
+        return Some(hi + lo);
     }
     if x < input {
         return lookup_exception(table, first, middle, x);
@@ -59,34 +53,25 @@ fn lookup_exception(table: &[f64; 624], first: usize, past: usize, x: f64) -> Fo
     lookup_exception(table, middle + 1, past, x)
 }
 
-// The first entry of a stretch, and the one past its last.
-fn start_of(stretch: Stretch) -> usize
-    ensures { result ≡ start stretch }
-{
-    match stretch {
-        Stretch::First => 0,
-        Stretch::Tiny => 56,
-        Stretch::Wide => 115,
-    }
-}
-
-fn end_of(stretch: Stretch) -> usize
-    ensures { result ≡ end stretch }
-{
-    match stretch {
-        Stretch::First => 56,
-        Stretch::Tiny => 115,
-        Stretch::Wide => 208,
+impl Stretch {
+    // The entries of a stretch: the first one, and the one past the last.
+    fn bounds(self) -> (usize, usize)
+        ensures { result ≡ (start self, end self) }
+    {
+        match self {
+            Stretch::First => (0, 56),
+            Stretch::Tiny => (56, 115),
+            Stretch::Wide => (115, 208),
+        }
     }
 }
 
 // The reply of the entry of the stretch whose x equals the given one.
-pub fn exception(stretch: Stretch, x: f64) -> Found
+pub fn exception(stretch: Stretch, x: f64) -> Option<f64>
     ensures value { result ≡ find (entries stretch) x }
     ensures exactly { Finds (entries stretch) x result }
 {
-    let first = start_of(stretch);
-    let past = end_of(stretch);
+    let (first, past) = stretch.bounds();
     // A constant array is made anew wherever it is named: once here, and lent to every step of the search.
     lookup_exception(&EXCEPTIONS, first, past, x)
 }

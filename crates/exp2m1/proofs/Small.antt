@@ -11,7 +11,8 @@ use Rattle.ieee754.specs.Operations.{first_nan}
 use Rattle.ieee754.proofs.Nans.{number_last}
 use Rattle.pair.specs.Pair.{bits}
 use Rattle.exceptions.specs.declared.Entry.{Entry}
-use Rattle.exceptions.specs.Lookup.{find, or_else}
+use Rattle.std.specs.Prelude.{unwrap_or}
+use Rattle.exceptions.specs.Lookup.{find}
 use Rattle.exp2m1.specs.Phases.{exp2m1_two_terms}
 use Rattle.exp2m1.specs.Score.{steps, score_with}
 use Rattle.exp2m1.specs.Range.{is_small}
@@ -30,7 +31,7 @@ module _ (list : List Entry) (ux : ℕ) where
   within true c h = absurd (true≢false (sym h))
   within false c h = (refl, h)
 
-  pub small : ux < 2 ^ 64 → is_small ux ≡ true → score_with list ux ≡ to_bits binary64 (or_else (find list (bits ux)) (exp2m1_two_terms (bits ux)))
+  pub small : ux < 2 ^ 64 → is_small ux ≡ true → score_with list ux ≡ to_bits binary64 (unwrap_or (find list (bits ux)) (exp2m1_two_terms (bits ux)))
   unfolding is_small
   small u h =
       let t = within (leb (ux % 2 ^ 63) 0x3970000000000000) (leb (ux % 2 ^ 63) 0x3cc0527dbd87e24d) h in

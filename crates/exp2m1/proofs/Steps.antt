@@ -11,7 +11,8 @@ use borrow.Author.Tests.{le-leb, lt-leb, le-ltb, lt-ltb, ltb-true}
 use Rattle.ieee754.proofs.Nans.{only_nan}
 use Rattle.pair.specs.Pair.{bits}
 use Rattle.exceptions.specs.declared.Entry.{Entry}
-use Rattle.exceptions.specs.Lookup.{find, or_else}
+use Rattle.std.specs.Prelude.{unwrap_or}
+use Rattle.exceptions.specs.Lookup.{find}
 use Rattle.exp2m1_whole.specs.Whole.{exp2m1_whole}
 use Rattle.exp2m1.specs.Phases.{zero, exp2m1_scaled, exp2m1_two_terms, exp2m1_fast, exp2m1_accurate}
 use Rattle.exp2m1.specs.Score.{is_whole, rounded, steps}
@@ -38,7 +39,7 @@ module _ (list : List Entry) (ux : ℕ) (x : Float) where
     unfolding steps
     step_4 h = rw (le-ltb _ _ small, lt-leb _ _ d, lt-leb _ _ l, le-leb _ _ h)
 
-    pub step_5 : 0x3970000000000000 < ux % 2 ^ 63 → ux % 2 ^ 63 ≤ 0x3cc0527dbd87e24d → steps list ux x ≡ or_else (find list x) (exp2m1_two_terms x)
+    pub step_5 : 0x3970000000000000 < ux % 2 ^ 63 → ux % 2 ^ 63 ≤ 0x3cc0527dbd87e24d → steps list ux x ≡ unwrap_or (find list x) (exp2m1_two_terms x)
     unfolding steps
     step_5 g h = rw (le-ltb _ _ small, lt-leb _ _ d, lt-leb _ _ l, lt-leb _ _ g, le-leb _ _ h)
 

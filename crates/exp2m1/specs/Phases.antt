@@ -1,12 +1,12 @@
 -- The phases of exp2m1.rs over IEEE operations, with the source's operands and association. Definitions only.
-use Rattle.std.specs.Prelude.{◌%◌, ◌^◌, Bool, cond, leb, Float}
+use Rattle.std.specs.Prelude.{◌%◌, ◌^◌, Bool, cond, leb, unwrap_or, Float}
 use Rattle.std.specs.Float.{binary64}
 use Rattle.std.specs.Float.Ieee.{add, mul, neg, le, to_bits}
 use Rattle.pair.specs.declared.Pair.{Pair}
 use Rattle.pair.specs.Pair.{bits, pair}
 use Rattle.double_double.specs.Pairs.{fma, fast_two_sum, a_mul, s_mul}
 use Rattle.exceptions.specs.declared.Stretch.TheVariants.{Wide}
-use Rattle.exceptions.specs.Lookup.{find, or_else, entries}
+use Rattle.exceptions.specs.Lookup.{find, entries}
 use Rattle.exponential.specs.Constants.{LN2H, LN2L}
 use Rattle.exponential.specs.Exponential.{exp1, exp2}
 use Rattle.exp2m1_tiny.specs.declared.Estimate.{Estimate}
@@ -57,4 +57,4 @@ unfoldable pub exp2m1_accurate : Float → Float
 exp2m1_accurate x =
     let ax = to_bits binary64 x % 2 ^ 63 in
     let p = subtract_one x (exp2 x) in
-    cond (leb ax 0x3fc0000000000000) (exp2m1_accurate_tiny x) (or_else (find (entries Wide) x) (add binary64 p.hi p.lo))
+    cond (leb ax 0x3fc0000000000000) (exp2m1_accurate_tiny x) (unwrap_or (find (entries Wide) x) (add binary64 p.hi p.lo))

@@ -1,5 +1,5 @@
 -- The score of a weight: document 01, "One weight, range by range", steps 1 to 8; by request A.4 any list of entries may stand in for the first exception table. Definitions only.
-use Rattle.std.specs.Prelude.{ℕ, ◌%◌, ◌^◌, Bool, ◌&&◌, cond, List, [], ◌∷◌, leb, ltb, eqb, Float}
+use Rattle.std.specs.Prelude.{ℕ, ◌%◌, ◌^◌, Bool, ◌&&◌, cond, List, [], ◌∷◌, leb, ltb, eqb, unwrap_or, Float}
 use Rattle.std.specs.Float.{binary64}
 use Rattle.std.specs.Float.Ieee.{add, sub, eq, le, to_bits}
 use Rattle.rounding.specs.declared.Direction.TheVariants.{Down}
@@ -7,7 +7,7 @@ use Rattle.ieee754.specs.Operations.{round_to_integral, first_nan}
 use Rattle.pair.specs.Pair.{bits}
 use Rattle.exceptions.specs.declared.Entry.{Entry}
 use Rattle.exceptions.specs.declared.Stretch.TheVariants.{First}
-use Rattle.exceptions.specs.Lookup.{find, or_else, entries}
+use Rattle.exceptions.specs.Lookup.{find, entries}
 use Rattle.exp2m1_tiny.specs.declared.Estimate.{Estimate}
 use Rattle.exp2m1_whole.specs.Whole.{exp2m1_whole}
 use Rattle.exp2m1.specs.Phases.{zero, exp2m1_scaled, exp2m1_two_terms, exp2m1_fast, exp2m1_accurate}
@@ -38,7 +38,7 @@ steps list ux x =
     -- 4. |x| <= 2 ^ -104: zero itself with its sign, else the steps scaled by 2 ^ 106
     (cond (leb ax 0x3970000000000000) (cond (eq x zero) x (exp2m1_scaled x))
     -- 5. |x| <= 0x1.0527dbd87e24dp-51: the list, then two terms of the Taylor expansion
-    (cond (leb ax 0x3cc0527dbd87e24d) (or_else (find list x) (exp2m1_two_terms x))
+    (cond (leb ax 0x3cc0527dbd87e24d) (unwrap_or (find list x) (exp2m1_two_terms x))
     -- 6. a whole number from -53 to 53: exactly
     (cond (is_whole ux x) (exp2m1_whole x)
     -- 7. the fast phase, and 8. the accurate phase where that does not decide

@@ -6,7 +6,7 @@
 // phases promise the definitions of their names in specs/Phases.antt.
 #![tactic(auto)]
 
-ghost use Rattle.std.specs.Prelude.{◌≡◌, ◌%◌, ◌^◌, ◌<◌, leb, List};
+ghost use Rattle.std.specs.Prelude.{◌≡◌, ◌%◌, ◌^◌, ◌<◌, leb, List, unwrap_or};
 ghost use Rattle.std.specs.Float.{binary64};
 ghost use Rattle.std.specs.Float.Ieee.{to_bits};
 ghost use Rattle.exp2m1.specs.Phases.{exp2m1_scaled, exp2m1_two_terms, subtract_one, exp2m1_fast, exp2m1_accurate};
@@ -15,10 +15,10 @@ ghost use Rattle.exp2m1.specs.Range.{Bounded, is_small};
 ghost use Rattle.pair.specs.Pair.{bits};
 ghost use Rattle.exceptions.specs.declared.Entry.{Entry};
 ghost use Rattle.exceptions.specs.declared.Stretch.TheVariants.{First};
-ghost use Rattle.exceptions.specs.Lookup.{find, or_else, entries};
+ghost use Rattle.exceptions.specs.Lookup.{find, entries};
 
 use double_double::{a_mul, fast_two_sum, s_mul};
-use exceptions::{Found, Stretch};
+use exceptions::Stretch;
 use exp2m1_tiny::Estimate;
 use exponential::{LN2H, LN2L};
 use operands::quiet;
@@ -57,11 +57,11 @@ pub fn score(x: u64) -> u64
 }
 
 // The score where another list stands in for the first table of exceptional cases, and has found for x.
-pub fn score_found(x: u64, found: Found) -> u64
+pub fn score_found(x: u64, found: Option<f64>) -> u64
     ensures { (list : List Entry) → found ≡ find list (bits x) → result ≡ score_with list x }
 {
     if is_small(x) {
-        if let Found::Reply(result) = found {
+        if let Some(result) = found {
             return math::to_bits(result);
         }
         return math::to_bits(exp2m1_two_terms(math::from_bits(x)));
@@ -70,11 +70,12 @@ pub fn score_found(x: u64, found: Found) -> u64
 }
 
 // Whether step 5 decides the weight with the bits ux.
+#[tactic(auto, unfolding(crate::specs::Range::is_small))]
 fn is_small(ux: u64) -> bool
     ensures { result ≡ is_small ux }
 {
     let ax = ux % 0x8000000000000000;
-    if ax <= SCALED { false } else { ax <= SMALL }
+    SCALED < ax && ax <= SMALL
 }
 
 // Base-2 exponential minus one: 2^x - 1.
@@ -139,6 +140,7 @@ fn exp2m1_phases(x: f64, tiny: bool) -> f64
 }
 
 // |x| <= 2^-104: the double-double approximation hi+lo would have its lower part lo "truncated".
+#[tactic(auto, unfolding(crate::specs::Phases::exp2m1_scaled))]
 fn exp2m1_scaled(x: f64) -> f64
     ensures { result ≡ exp2m1_scaled x }
 {
@@ -158,14 +160,15 @@ fn exp2m1_scaled(x: f64) -> f64
 
 // 2^-104 < |x| <= 0x1.0527dbd87e24dp-51: the exceptional cases, then two terms of the Taylor expansion.
 fn exp2m1_small(x: f64) -> f64
-    ensures { result ≡ or_else (find (entries First) x) (exp2m1_two_terms x) }
+    ensures { result ≡ unwrap_or (find (entries First) x) (exp2m1_two_terms x) }
 {
-    if let Found::Reply(result) = exceptions::exception(Stretch::First, x) {
+    if let Some(result) = exceptions::exception(Stretch::First, x) {
         return result;
     }
     exp2m1_two_terms(x)
 }
 
+#[tactic(auto, unfolding(crate::specs::Phases::exp2m1_two_terms))]
 fn exp2m1_two_terms(x: f64) -> f64
     ensures { result ≡ exp2m1_two_terms x }
 {
@@ -179,6 +182,7 @@ fn exp2m1_two_terms(x: f64) -> f64
 }
 
 // Whether the low 47 bits of ux are zero, and x is a whole number from -53 to 53.
+#[tactic(auto, unfolding(crate::specs::Score::is_whole))]
 fn is_whole(ux: u64, x: f64) -> bool
     ensures { result ≡ is_whole ux x }
 {
@@ -186,11 +190,7 @@ fn is_whole(ux: u64, x: f64) -> bool
         return false;
     }
     let i = math::floor(x);
-    if x == i {
-        if MINUS_53 <= i { i <= 53.0 } else { false }
-    } else {
-        false
-    }
+    x == i && MINUS_53 <= i && i <= 53.0
 }
 
 // Given -54 < x < -0x1.0527dbd87e24dp-51 or 0x1.0527dbd87e24dp-51 < x < 1024, put in hi + lo
@@ -216,6 +216,7 @@ fn exp2m1_fast(x: f64, tiny: bool) -> Estimate
 }
 
 // p - 1, where p approximates 2^x.
+#[tactic(auto, unfolding(crate::specs::Phases::subtract_one))]
 fn subtract_one(x: f64, p: Pair) -> Pair
     ensures { result ≡ subtract_one x p }
 {
@@ -246,7 +247,7 @@ fn exp2m1_accurate(x: f64) -> f64
     }
     // now -54 < x < -0.125 or 0.125 < x < 1024: we approximate exp(x*log(2))
     // and subtract 1
-    if let Found::Reply(result) = exceptions::exception(Stretch::Wide, x) {
+    if let Some(result) = exceptions::exception(Stretch::Wide, x) {
         return result;
     }
     let p = exponential::exp_2(x);

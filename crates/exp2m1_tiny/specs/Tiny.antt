@@ -1,12 +1,12 @@
 -- The phases of exp2m1.rs for |x| <= 0.125 over IEEE operations, with the source's operands and association. Definitions only.
-use Rattle.std.specs.Prelude.{Float}
+use Rattle.std.specs.Prelude.{Float, unwrap_or}
 use Rattle.std.specs.Float.{binary64}
 use Rattle.std.specs.Float.Ieee.{add, mul}
 use Rattle.pair.specs.declared.Pair.{Pair}
 use Rattle.pair.specs.Pair.{bits, pair}
 use Rattle.double_double.specs.Pairs.{fma, fast_two_sum, fast_sum, a_mul, s_mul}
 use Rattle.exceptions.specs.declared.Stretch.TheVariants.{Tiny}
-use Rattle.exceptions.specs.Lookup.{find, or_else, entries}
+use Rattle.exceptions.specs.Lookup.{find, entries}
 use Rattle.exp2m1_tiny.specs.declared.Estimate.{Estimate}
 use Rattle.exp2m1_tiny.specs.Coefficients.{P, Q}
 
@@ -75,4 +75,4 @@ polynomial_q x =
 unfoldable pub exp2m1_accurate_tiny : Float → Float
 exp2m1_accurate_tiny x =
     let p = polynomial_q x in
-    or_else (find (entries Tiny) x) (add binary64 p.hi p.lo)
+    unwrap_or (find (entries Tiny) x) (add binary64 p.hi p.lo)

@@ -9,7 +9,7 @@ ghost use Rattle.double_double.specs.Pairs.{fma};
 ghost use Rattle.exp2m1_tiny.specs.Tiny.{degree4, horner_step, exp2m1_fast_tiny, polynomial_q, exp2m1_accurate_tiny};
 
 use double_double::{a_mul, fast_sum, fast_two_sum, s_mul};
-use exceptions::{Found, Stretch};
+use exceptions::Stretch;
 use math::{fma_bits, from_bits, pattern};
 use pair::Pair;
 
@@ -50,6 +50,7 @@ const FAST_ERROR: f64 = f64::from_bits(0x3bd4e00000000000); // 0x1.4ep-66 > 2^-6
 
 // |x| <= 0.125, put in hi + lo a double-double approximation of exp2m1(x), and return the
 // maximal corresponding absolute error. The relative error is bounded by 2^-65.62.
+#[tactic(auto, unfolding(crate::specs::Tiny::exp2m1_fast_tiny))]
 pub fn exp2m1_fast_tiny(x: f64) -> Estimate
     ensures { result ≡ exp2m1_fast_tiny x }
 {
@@ -68,6 +69,7 @@ pub fn exp2m1_fast_tiny(x: f64) -> Estimate
 }
 
 // The coefficients of degree 4 or higher.
+#[tactic(auto, unfolding(crate::specs::Tiny::degree4))]
 fn degree_4(x: f64) -> f64
     ensures { result ≡ degree4 x }
 {
@@ -96,6 +98,7 @@ fn linear(a: f64, x: u64, b: f64) -> u64
 }
 
 // Multiply p by x and add ch + cl.
+#[tactic(auto, unfolding(crate::specs::Tiny::horner_step))]
 fn horner_step(x: f64, p: Pair, ch: f64, cl: f64) -> Pair
     ensures { result ≡ horner_step x p ch cl }
 {
@@ -154,10 +157,11 @@ const Q_20: f64 = f64::from_bits(0x3d33150b3d792231); // 0x1.3150b3d792231p-44, 
 const Q_21: f64 = f64::from_bits(0x3cec184260bfad7e); // 0x1.c184260bfad7ep-49, degree 15
 
 // Accurate path for 0x1.0527dbd87e24dp-51 < |x| <= 0.125.
+#[tactic(auto, unfolding(crate::specs::Tiny::exp2m1_accurate_tiny))]
 pub fn exp2m1_accurate_tiny(x: f64) -> f64
     ensures { result ≡ exp2m1_accurate_tiny x }
 {
-    if let Found::Reply(result) = exceptions::exception(Stretch::Tiny, x) {
+    if let Some(result) = exceptions::exception(Stretch::Tiny, x) {
         return result;
     }
     let p = polynomial_q(x);
@@ -165,6 +169,7 @@ pub fn exp2m1_accurate_tiny(x: f64) -> f64
 }
 
 // The polynomial of the accurate phase, before the last sum.
+#[tactic(auto, unfolding(crate::specs::Tiny::polynomial_q))]
 pub fn polynomial_q(x: f64) -> Pair
     ensures { result ≡ polynomial_q x }
 {

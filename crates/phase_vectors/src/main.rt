@@ -7,7 +7,7 @@
 
 ghost use Rattle.exponential.specs.Range.{InRange};
 
-use exceptions::{Found, Stretch};
+use exceptions::Stretch;
 use exponential::{LN2H, LN2L};
 use pair::Pair;
 use vectors::Answer;
@@ -36,13 +36,13 @@ fn table(name: &[u8], x: f64, want: u64) -> Answer {
     Answer::Malformed
 }
 
-fn found(entry: Found, want: u64) -> Answer {
+fn found(entry: Option<f64>, want: u64) -> Answer {
     match entry {
-        Found::Reply(reply) => Answer::Found {
+        Some(reply) => Answer::Found {
             got: math::to_bits(reply),
             want,
         },
-        Found::Nothing => Answer::Malformed,
+        None => Answer::Malformed,
     }
 }
 

@@ -1,5 +1,5 @@
 -- Request A.4: "Scoring with a lent list replies by 01's steps with that list in step 5", "A refused list yields its number and no score." Definitions only.
-use Rattle.std.specs.Prelude.{◌≡◌, true, false, cond, List, ℕ, ◌<◌, ◌^◌, eqb}
+use Rattle.std.specs.Prelude.{◌≡◌, true, false, cond, List, ℕ, ◌<◌, ◌^◌, eqb, unwrap_or}
 use Rattle.std.specs.Float.{binary64}
 use Rattle.std.specs.Float.Ieee.{to_bits}
 use Rattle.pair.specs.Pair.{bits}
@@ -7,7 +7,7 @@ use Rattle.reply.specs.declared.Reply.{Reply}
 use Rattle.reply.specs.declared.Reply.TheVariants.{Refused, Bits}
 use Rattle.exceptions.specs.declared.Entry.{Entry}
 use Rattle.exceptions.specs.declared.Stretch.TheVariants.{First}
-use Rattle.exceptions.specs.Lookup.{find, or_else, Finds, entries}
+use Rattle.exceptions.specs.Lookup.{find, Finds, entries}
 use Rattle.exception_list.specs.List.{refusal_of}
 use Rattle.exp2m1.specs.Phases.{exp2m1_two_terms}
 use Rattle.exp2m1.specs.Range.{is_small}
@@ -19,7 +19,7 @@ scored_with list x = cond (eqb (refusal_of list) 0) (Bits (score_with list x)) (
 
 -- where step 5 decides, an entry is found exactly when some entry of the list equals the weight, and then the score is its hi + lo rounded; everywhere else the list makes no difference
 pub record Listed (list : List Entry) (x : ℕ) : Type 0 where
-  pub in_step_5 : is_small x ≡ true → Finds list (bits x) (find list (bits x)) × (score_with list x ≡ to_bits binary64 (or_else (find list (bits x)) (exp2m1_two_terms (bits x))))
+  pub in_step_5 : is_small x ≡ true → Finds list (bits x) (find list (bits x)) × (score_with list x ≡ to_bits binary64 (unwrap_or (find list (bits x)) (exp2m1_two_terms (bits x))))
   pub elsewhere : is_small x ≡ false → score_with list x ≡ score_bits x
 
 abbrev pub EveryListed : Type 0

@@ -25,8 +25,8 @@ use Rattle.rounding_errors.proofs.Spacing.{spacings, spacing_is, under_largest, 
 use Rattle.pair.specs.Pair.{bits}
 use Rattle.double_double.specs.Pairs.{fma, a_mul}
 use Rattle.exceptions.specs.declared.Stretch.TheVariants.{First}
-use Rattle.exceptions.specs.declared.Found.{Found}
-use Rattle.exceptions.specs.Lookup.{reply_of, nth, find, or_else, entries, Finds, present, absent}
+use Rattle.std.specs.Prelude.{Option, unwrap_or}
+use Rattle.exceptions.specs.Lookup.{reply_of, nth, find, entries, Finds, present, absent}
 use Rattle.exceptions.proofs.Scan.{finds}
 use Rattle.exponential.specs.Constants.{LN2H, LN2L}
 use Rattle.exp2m1.specs.Constants.{C2}
@@ -58,7 +58,7 @@ two_terms_close ux W =
     (sym (ap (value binary64) e ∙ value_is binary64 r K.side K.size K.val)) K.near)
 
 -- ---- an entry that was found, or the two terms
-step_close : (ux : ℕ) → Weight ux → (e : Found) → Finds (entries First) (bits ux) e → Close (value_of ux) (to_bits binary64 (or_else e (exp2m1_two_terms (bits ux))))
+step_close : (ux : ℕ) → Weight ux → (e : Option Float) → Finds (entries First) (bits ux) e → Close (value_of ux) (to_bits binary64 (unwrap_or e (exp2m1_two_terms (bits ux))))
 step_close ux W e (present i p k) =
     let M = entry_meets i p in
     subst (λ (v : ℤ). Close v (to_bits binary64 (reply_of (nth (entries First) i)))) (sym (equal_value binary64 (bits ux) (nth (entries First) i).x W.number M.number k)) M.close
