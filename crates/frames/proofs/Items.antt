@@ -5,10 +5,10 @@ use mathlib.Core.List.{List}
 use mathlib.Core.Bool.{Bool, true, false, not}
 use native.Mathlib.Nat.{mul-le-mul_left, div-mul-le_self}
 use native.Mathlib.Omega.{arith}
-use lib.Dec.{leb, eqb}
-use borrow.Author.Tests.{lt-ltb, le-ltb, leb-true, leb-false, eqb-true, eqb-false}
+use lib.Dec.{eqb}
+use borrow.Author.Tests.{eqb-true, eqb-false}
 use Rattle.sheets.specs.Sheet.{sheet_refusal}
-use Rattle.frames.specs.Frame.{no_items, is_kind, kind_of, items_from, item_bytes, item_count, bad_payload}
+use Rattle.frames.specs.Frame.{no_items, kind_of, items_from, item_bytes, item_count, bad_payload}
 
 -- of every other number than 3 the items come first, and there is no refusal of its own before 5; of every other number than 5 there is none after
 -- 5
@@ -25,16 +25,6 @@ items_first (suc (suc (suc (suc (suc (suc kind)))))) n = refl
 pub items_third : {kind : ℕ} → kind ≡ 3 → items_from kind ≡ 1
 unfolding kind_of
 items_third e = rw e refl
-
-pub none_own : (kind : ℕ) (payload : List ℕ) → (kind ≡ 3 → ⊥) → (kind_of kind).own payload ≡ 0
-unfolding kind_of
-none_own zero p n = refl
-none_own (suc zero) p n = refl
-none_own (suc (suc zero)) p n = refl
-none_own (suc (suc (suc zero))) p n = absurd (n refl)
-none_own (suc (suc (suc (suc zero)))) p n = refl
-none_own (suc (suc (suc (suc (suc zero))))) p n = refl
-none_own (suc (suc (suc (suc (suc (suc kind)))))) p n = refl
 
 pub none_later : (kind : ℕ) (payload : List ℕ) → (kind ≡ 5 → ⊥) → (kind_of kind).later payload ≡ 0
 unfolding kind_of
@@ -75,20 +65,6 @@ item_least kind = go (eqb kind 1) (eqb kind 5) refl refl
     go true t e f = omega (arith, item_one (eqb-true kind 1 e))
     go false true e f = omega (arith, item_line (eqb-true kind 5 f))
     go false false e f = omega (arith, item_other kind (eqb-false kind 1 e) (eqb-false kind 5 f))
-
-pub some_kind : (kind : ℕ) → 1 ≤ kind → kind ≤ 5 → is_kind kind ≡ true
-unfolding is_kind
-some_kind zero l h = absurd (omega arith)
-some_kind (suc place) l h = lt-ltb place 5 (omega arith)
-
-pub no_kind : (kind : ℕ) → (1 ≤ kind → kind ≤ 5 → ⊥) → is_kind kind ≡ false
-unfolding is_kind
-no_kind zero n = refl
-no_kind (suc place) n = le-ltb place 5 (by (leb 5 place) refl)
-  where
-    by : (t : Bool) → leb 5 place ≡ t → 5 ≤ place
-    by true e = leb-true 5 place e
-    by false e = let h = leb-false 5 place e in absurd (n (omega arith) (omega arith))
 
 -- the lengths that a report does not have, and those that every other number does not
 pub bad_report : {kind : ℕ} → kind ≡ 4 → (n : ℕ) → bad_payload kind n ≡ not (eqb n 0)

@@ -1,3 +1,4 @@
 pub mod Frame
 pub mod Body
 pub mod Part
+pub mod Numbers

@@ -4,15 +4,14 @@
 // (specs/Part.antt). The results of a payload are in the crate answers: nothing here computes with floats.
 #![tactic(auto)]
 
-ghost use Rattle.std.specs.Prelude.{◌≡◌, ◌∷◌, ◌*◌, ◌/◌, ◌%◌, ◌≤◌, ◌<◌, length, drop};
-ghost use Rattle.rounding.specs.Named.{direction_of};
-ghost use Rattle.frames.specs.Frame.{direction_refusal, is_kind, kind_of, items_from, item_bytes, item_count, bad_payload, refusal_to};
+ghost use Rattle.std.specs.Prelude.{◌≡◌, ◌∷◌, ◌*◌, ◌/◌, ◌%◌, ◌≤◌, ◌<◌, length, get_or, drop, IfOk};
+ghost use Rattle.frames.specs.Frame.{kind_of, no_items, items_from, item_bytes, item_count, bad_payload, refusal_to};
 ghost use Rattle.frames.specs.Body.{Body};
+ghost use Rattle.frames.specs.Numbers.{kind_number, number_of, numbered, IsDirections, IsKind, SameNumber};
 ghost use Rattle.frames.specs.Part.{Part, payload_from};
 
-use reply::Refusal;
-use rounding::Direction;
-use sheets::LINE_BYTES;
+use rounding::{Direction, UnknownDirection};
+use sheets::{BadLine, LINE_BYTES};
 
 // The longest body that is answered, and not refused by its length.
 pub const LONGEST_BODY: usize = 514;
@@ -22,16 +21,150 @@ pub const ANSWER_ROOM: usize = 516;
 const REFUSAL_BYTES: usize = 4;
 
 const VERSION: u8 = 1;
-// The kinds: scores, a * b + c to nearest, and in a direction, a report, and a sheet.
-pub const SCORES: u8 = 1;
 
-const FUSED: u8 = 2;
+const WEIGHT_BYTES: usize = 8;
 
-pub const DIRECTED: u8 = 3;
+const TRIPLE_BYTES: usize = 24;
 
-pub const REPORT: u8 = 4;
+// The kinds by their numbers: scores, a * b + c to nearest, and in a direction, a report, and a sheet.
+#[derive(Clone, Copy, Debug, PartialEq, Eq)]
+pub enum Kind {
+    Scores = 1,
+    Fused = 2,
+    Directed = 3,
+    Report = 4,
+    Sheet = 5,
+}
 
-pub const SHEET: u8 = 5;
+// Why a frame is refused, by the refusal's number.
+#[derive(Clone, Copy, Debug, PartialEq, Eq)]
+pub enum Refusal {
+    TooShort = 1,
+    TooLong = 2,
+    BadVersion = 3,
+    BadKind = 4,
+    BadPayload = 5,
+    BadDirection = 11,
+    BadForm = 14,
+    BadNumber = 15,
+}
+
+impl Refusal {
+    pub fn number(self) -> u8
+        ensures { result ≡ number_of self }
+    {
+        self as u8
+    }
+}
+
+impl From<BadLine> for Refusal {
+    ghost from_gives = { SameNumber };
+
+    fn from(bad: BadLine) -> Refusal {
+        match bad {
+            BadLine::Form => Refusal::BadForm,
+            BadLine::Number => Refusal::BadNumber,
+        }
+    }
+}
+
+impl From<UnknownDirection> for Refusal {
+    ghost from_gives = { IsDirections };
+
+    fn from(_unknown: UnknownDirection) -> Refusal {
+        Refusal::BadDirection
+    }
+}
+
+impl TryFrom<u8> for Kind {
+    type Error = Refusal;
+
+    ghost try_from_gives = { IsKind };
+
+    #[tactic(auto, unfolding(crate::specs::Frame::is_kind))]
+    fn try_from(number: u8) -> Result<Kind, Refusal> {
+        match number {
+            1 => Ok(Kind::Scores),
+            2 => Ok(Kind::Fused),
+            3 => Ok(Kind::Directed),
+            4 => Ok(Kind::Report),
+            5 => Ok(Kind::Sheet),
+            _ => Err(Refusal::BadKind),
+        }
+    }
+}
+
+impl Kind {
+    // The bytes that precede the items of a payload.
+    #[tactic(auto, unfolding(crate::specs::Frame::kind_of))]
+    pub fn items_from(self) -> usize
+        ensures { (result ≡ items_from (kind_number self)) × (result ≤ 1) }
+    {
+        match self {
+            Kind::Directed => 1,
+            _ => 0,
+        }
+    }
+
+    // The bytes of one item. A sheet's are asked for apart, so that lengths are divided by constants.
+    #[tactic(auto, unfolding(crate::specs::Frame::kind_of))]
+    pub fn item_bytes(self) -> usize
+        requires { kind_number self ≡ 5 → ⊥ }
+        ensures { (result ≡ item_bytes (kind_number self)) × (8 ≤ result) × (result ≤ 24) }
+    {
+        match self {
+            Kind::Scores => WEIGHT_BYTES,
+            _ => TRIPLE_BYTES,
+        }
+    }
+
+    // The items in a payload of n bytes.
+    #[tactic(auto, unfolding(crate::specs::Frame::kind_of))]
+    pub fn item_count(self, n: usize) -> usize
+        requires { items_from (kind_number self) ≤ n }
+        ensures { (result ≡ item_count (kind_number self) n) × (8 * result ≤ n) }
+    {
+        match self {
+            Kind::Scores => n / WEIGHT_BYTES,
+            Kind::Directed => (n - 1) / TRIPLE_BYTES,
+            Kind::Fused | Kind::Report => n / TRIPLE_BYTES,
+            Kind::Sheet => n / LINE_BYTES,
+        }
+    }
+
+    // A kind's own refusal of a payload before 5.
+    #[tactic(auto, unfolding(crate::specs::Frame::kind_of))]
+    fn check_direction(self, payload: &[u8]) -> Result<(), Refusal>
+        ensures { numbered result ≡ (kind_of (kind_number self)).own payload.now }
+    {
+        if self == Kind::Directed && payload.len() != 0 {
+            Direction::try_from(payload[0])?;
+        }
+        Ok(())
+    }
+
+    // Whether a payload of n bytes is not what the kind has: nothing in a report, and otherwise at least one item, and whole items.
+    #[tactic(auto, unfolding(crate::specs::Frame::kind_of, crate::specs::Frame::bad_payload))]
+    fn bad_payload(self, n: usize) -> bool
+        ensures { result ≡ bad_payload (kind_number self) n }
+    {
+        match self {
+            Kind::Scores => no_items(0, WEIGHT_BYTES, n),
+            Kind::Fused => no_items(0, TRIPLE_BYTES, n),
+            Kind::Directed => no_items(1, TRIPLE_BYTES, n),
+            Kind::Report => n != 0,
+            Kind::Sheet => no_items(0, LINE_BYTES, n),
+        }
+    }
+}
+
+// Whether in n bytes nothing comes behind what precedes the items, or no multiple of an item.
+fn no_items(before: usize, item: usize, n: usize) -> bool
+    requires { 0 < item }
+    ensures { result ≡ no_items before item n }
+{
+    n <= before || (n - before) % item != 0
+}
 
 // From a body's third byte to its end; a body under 2 bytes gives its own empty end.
 pub fn payload(body: &[u8]) -> &[u8]
@@ -43,120 +176,31 @@ pub fn payload(body: &[u8]) -> &[u8]
     &body[2..]
 }
 
-// The bytes that precede the items of a kind's payload.
-pub fn items_from(kind: u8) -> usize
-    ensures { (result ≡ items_from kind) × (result ≤ 1) }
-{
-    if kind == DIRECTED { 1 } else { 0 }
-}
-
-// The bytes of one item of a kind that is no sheet. A sheet's are asked for apart, so that lengths are divided by constants.
-pub fn item_bytes(kind: u8) -> usize
-    requires { kind ≡ 5 → ⊥ }
-    ensures { (result ≡ item_bytes kind) × (8 ≤ result) × (result ≤ 24) }
-{
-    if kind == SCORES {
-        return 8;
-    }
-    24
-}
-
-// The items in a kind's payload of n bytes.
-pub fn item_count(kind: u8, n: usize) -> usize
-    requires { items_from kind ≤ n }
-    ensures { (result ≡ item_count kind n) × (8 * result ≤ n) }
-{
-    // Apart too, for the same reason.
-    if kind == SCORES {
-        return n / item_bytes(kind);
-    }
-    if kind == SHEET {
-        return n / LINE_BYTES;
-    }
-    (n - items_from(kind)) / item_bytes(kind)
-}
-
-fn is_kind(kind: u8) -> bool
-    ensures { result ≡ is_kind kind }
-{
-    match kind {
-        SCORES | FUSED | DIRECTED | REPORT | SHEET => true,
-        _ => false,
-    }
-}
-
-// The number by which a direction byte is refused, or 0.
-fn bad_direction(byte: u8) -> u8
-    ensures { result ≡ direction_refusal (direction_of byte) }
-{
-    match Direction::try_from(byte) {
-        Ok(_) => 0,
-        Err(unknown) => unknown.number(),
-    }
-}
-
-// A kind's own refusal of a payload before 5, or 0.
-fn own_refusal(kind: u8, payload: &[u8]) -> u8
-    ensures { result ≡ (kind_of kind).own payload.now }
-{
-    if kind == DIRECTED {
-        if payload.len() == 0 {
-            0
-        } else {
-            bad_direction(payload[0])
-        }
-    } else {
-        0
-    }
-}
-
-// Whether a payload of n bytes is not what the kind has: nothing in a report, and otherwise at least one item, and whole items.
-fn bad_payload(kind: u8, n: usize) -> bool
-    ensures { result ≡ bad_payload kind n }
-{
-    if kind == REPORT {
-        return n != 0;
-    }
-    let from = items_from(kind);
-    if n <= from {
-        return true;
-    }
-    if kind == SHEET {
-        return n % LINE_BYTES != 0;
-    }
-    (n - from) % item_bytes(kind) != 0
-}
-
-// The first of the sender's refusals that a body of n bytes meets, or 0. Where n is 2 to 514, body is that body.
-pub fn refusal_to(n: usize, body: &[u8]) -> u8
+// The kind of a body of n bytes, or the first of the sender's refusals that it meets. Where n is 2 to 514, body is that body.
+pub fn refusal_to(n: usize, body: &[u8]) -> Result<Kind, Refusal>
     requires { Body n body.now }
-    ensures { result ≡ refusal_to n body.now }
+    ensures number { numbered result ≡ refusal_to n body.now }
+    ensures kind { IfOk result (λ kind. kind_number kind ≡ get_or body.now 1 0) }
 {
     if n < 2 {
-        return 1;
+        return Err(Refusal::TooShort);
     }
     if LONGEST_BODY < n {
-        return 2;
+        return Err(Refusal::TooLong);
     }
     if body[0] != VERSION {
-        return 3;
+        return Err(Refusal::BadVersion);
     }
-    let kind = body[1];
-    if is_kind(kind) {
-        let rest = payload(body);
-        let own = own_refusal(kind, rest);
-        if own != 0 {
-            return own;
-        }
-        if bad_payload(kind, n - 2) {
-            return 5;
-        }
-        if kind == SHEET {
-            return sheets::refusal(rest);
-        }
-        return 0;
+    let kind = Kind::try_from(body[1])?;
+    let rest = payload(body);
+    kind.check_direction(rest)?;
+    if kind.bad_payload(n - 2) {
+        return Err(Refusal::BadPayload);
     }
-    4
+    if kind == Kind::Sheet {
+        sheets::refusal(rest)?;
+    }
+    Ok(kind)
 }
 
 // The first four bytes of an answer: a body of n bytes with version 1 and a code.

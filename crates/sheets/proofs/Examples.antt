@@ -8,8 +8,9 @@ use lib.ListN.{replicate}
 use lib.Dec.{lit<}
 use Rattle.sheets.specs.Sheet.{line_of, refusal_of, sheet_refusal}
 use Rattle.sheets.specs.FirstBad.{refusal_at, Decides, good, bad}
+use Rattle.std.specs.Prelude.{Option, Some, None}
 use Rattle.sheets.specs.declared.Line.{Line}
-use Rattle.sheets.specs.declared.Line.TheVariants.{Weight, Sum, Neither}
+use Rattle.sheets.specs.declared.Line.TheVariants.{Weight, Sum}
 use Rattle.sheets.proofs.FirstBad.{first_bad}
 
 -- a weight whose bytes are no filler, and the sum of two lines
@@ -23,18 +24,18 @@ sum first second = 1 ∷ first ∷ second ∷ replicate 6 0
 abbrev spoiled : ℕ → ℕ → List ℕ
 spoiled zeros more = 1 ∷ 0 ∷ 0 ∷ (replicate zeros 0 ++ (1 ∷ replicate more 0))
 
-abbrev line : List ℕ → Line
+abbrev line : List ℕ → Option Line
 line bytes = line_of (weight ++ (bytes ++ weight)) 1
 
 pub forms :
     map line (weight ∷ sum 3 200 ∷ (2 ∷ replicate 8 0) ∷ (255 ∷ replicate 8 0) ∷ spoiled 0 5 ∷ spoiled 1 4 ∷ spoiled 2 3 ∷ spoiled 3 2 ∷ spoiled 4 1 ∷ spoiled 5 0 ∷ [])
-    ≡ Weight 0x0102030405060708 ∷ Sum 3 200 ∷ Neither ∷ Neither ∷ Neither ∷ Neither ∷ Neither ∷ Neither ∷ Neither ∷ Neither ∷ []
+    ≡ Some (Weight 0x0102030405060708) ∷ Some (Sum 3 200) ∷ None ∷ None ∷ None ∷ None ∷ None ∷ None ∷ None ∷ None ∷ []
 unfolding line_of
 forms = refl
 
 -- of line 2: earlier lines, twice the same one; its own number, a greater one, and one that no sheet has, as first and as second
 pub numbers :
-    map (refusal_of 2) (Weight 0 ∷ Sum 0 1 ∷ Sum 1 1 ∷ Sum 2 0 ∷ Sum 0 2 ∷ Sum 3 1 ∷ Sum 1 3 ∷ Sum 255 0 ∷ Sum 0 255 ∷ Neither ∷ [])
+    map (refusal_of 2) (Some (Weight 0) ∷ Some (Sum 0 1) ∷ Some (Sum 1 1) ∷ Some (Sum 2 0) ∷ Some (Sum 0 2) ∷ Some (Sum 3 1) ∷ Some (Sum 1 3) ∷ Some (Sum 255 0) ∷ Some (Sum 0 255) ∷ None ∷ [])
     ≡ 0 ∷ 0 ∷ 0 ∷ 15 ∷ 15 ∷ 15 ∷ 15 ∷ 15 ∷ 15 ∷ 14 ∷ []
 unfolding refusal_of
 numbers = refl

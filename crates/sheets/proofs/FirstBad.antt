@@ -8,8 +8,9 @@ use native.Mathlib.Omega.{arith}
 use lib.Dec.{ltb, eqb}
 use borrow.Author.Tests.{ltb-true, ltb-false, eqb-true, eqb-false}
 use Rattle.sheets.specs.Sheet.{line_of, refusal_of, or_else, first_refusal, line_count, sheet_refusal}
+use Rattle.std.specs.Prelude.{Option, Some, None}
 use Rattle.sheets.specs.declared.Line.{Line}
-use Rattle.sheets.specs.declared.Line.TheVariants.{Weight, Sum, Neither}
+use Rattle.sheets.specs.declared.Line.TheVariants.{Weight, Sum}
 use Rattle.sheets.specs.FirstBad.{refusal_at, Decides, good, bad, FirstBad}
 
 or_good : {m n : ℕ} → m ≡ 0 → or_else m n ≡ n
@@ -105,11 +106,11 @@ module _ (P : ℕ → Type 0) (none : P 0) (form : P 14) (number : P 15) where
   cond_by true = none
   cond_by false = number
 
-  line_by : (i : ℕ) (line : Line) → P (refusal_of i line)
+  line_by : (i : ℕ) (line : Option Line) → P (refusal_of i line)
   unfolding refusal_of
-  line_by i (Weight x) = none
-  line_by i (Sum first second) = cond_by (ltb first i && ltb second i)
-  line_by i Neither = form
+  line_by i (Some (Weight x)) = none
+  line_by i (Some (Sum first second)) = cond_by (ltb first i && ltb second i)
+  line_by i None = form
 
   pub sheet_by : (p : List ℕ) → P (sheet_refusal p)
   sheet_by p = go (sheet_refusal p) (first_bad.decides p)

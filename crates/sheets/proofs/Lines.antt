@@ -1,16 +1,17 @@
--- The form of a line, case by case as a function that tries the first byte and then the filler comes to it. Assumes nothing.
+-- The filler of a line, as it is read, and the lines that a good line names. Assumes nothing.
 use Prim.Native.Nat.{ℕ, ◌+◌, ◌*◌, ◌≤◌, ◌<◌}
 use mathlib.Core.Path.{◌≡◌, refl, sym, ap, ◌∙◌}
 use mathlib.Core.List.{List, [], ◌∷◌}
 use mathlib.Core.Bool.{Bool, true, false, ◌&&◌}
 use native.Mathlib.Omega.{arith}
-use lib.ListN.{length, get_or, take, drop}
+use lib.ListN.{length, take, drop}
 use lib.Dec.{ltb, eqb}
 use borrow.Author.Tests.{eq-eqb, ne_eqb, eqb-true, eqb-false, lt-ltb, le-ltb, ltb-true, ltb-false}
 use Rattle.words.specs.Bytes.{number_after, number_at}
 use Rattle.words.proofs.Numbers.{join}
-use Rattle.sheets.specs.Sheet.{all_zero, line_at, refusal_of}
-use Rattle.sheets.specs.declared.Line.TheVariants.{Weight, Sum, Neither}
+use Rattle.sheets.specs.Sheet.{all_zero, refusal_of}
+use Rattle.std.specs.Prelude.{Some}
+use Rattle.sheets.specs.declared.Line.TheVariants.{Sum}
 
 -- ---- the filler, which is read as numbers
 
@@ -49,44 +50,23 @@ module _ (p : List ℕ) (at : ℕ) (h : at + 6 ≤ length p) where
       let same : number_at 4 p (at + 2) ≡ number_at 6 p at = omega (arith, j) in
       ap (λ (n : ℕ). eqb n 0) same ∙ six
 
-  pub filler_first : (number_at 2 p at ≡ 0 → ⊥) → false ≡ all_zero (take 6 (drop at p))
-  filler_first z = let j = join 2 4 p at (omega arith) in sym (ne_eqb (number_at 6 p at) 0 (λ e. z (omega (arith, j)))) ∙ six
-
--- ---- the line
-
-module _ (p : List ℕ) (at : ℕ) where
-  pub first_form : get_or p at 0 ≡ 0 → line_at p at ≡ Weight (number_at 8 p (at + 1))
-  unfolding line_at
-  first_form e = rw e refl
-
-  pub second_form : get_or p at 0 ≡ 1 → all_zero (take 6 (drop (at + 3) p)) ≡ true → line_at p at ≡ Sum (get_or p (at + 1) 0) (get_or p (at + 2) 0)
-  unfolding line_at
-  second_form e z = rw (e, z) refl
-
-  pub bad_filler : get_or p at 0 ≡ 1 → all_zero (take 6 (drop (at + 3) p)) ≡ false → line_at p at ≡ Neither
-  unfolding line_at
-  bad_filler e z = rw (e, z) refl
-
-  pub bad_form : (get_or p at 0 ≡ 0 → ⊥) → (get_or p at 0 ≡ 1 → ⊥) → line_at p at ≡ Neither
-  unfolding line_at
-  bad_form y z = rw (ne_eqb (get_or p at 0) 0 y, ne_eqb (get_or p at 0) 1 z) refl
+  pub filler_first : (number_at 2 p at ≡ 0 → ⊥) → eqb (number_at 2 p at) 0 ≡ all_zero (take 6 (drop at p))
+  filler_first z =
+      let j = join 2 4 p at (omega arith) in
+      ne_eqb (number_at 2 p at) 0 z ∙ sym (ne_eqb (number_at 6 p at) 0 (λ e. z (omega (arith, j)))) ∙ six
 
 -- ---- the lines that it names
 
 module _ (i first second : ℕ) where
-  pub late_first : i ≤ first → refusal_of i (Sum first second) ≡ 15
+  pub late_first : i ≤ first → refusal_of i (Some (Sum first second)) ≡ 15
   unfolding refusal_of
   late_first h = rw (le-ltb first i h) refl
 
-  pub late_second : first < i → i ≤ second → refusal_of i (Sum first second) ≡ 15
+  pub late_second : first < i → i ≤ second → refusal_of i (Some (Sum first second)) ≡ 15
   unfolding refusal_of
   late_second l h = rw (lt-ltb first i l, le-ltb second i h) refl
 
-  pub both_earlier : first < i → second < i → refusal_of i (Sum first second) ≡ 0
-  unfolding refusal_of
-  both_earlier l h = rw (lt-ltb first i l, lt-ltb second i h) refl
-
-  pub names_earlier : refusal_of i (Sum first second) ≡ 0 → (first < i) × (second < i)
+  pub names_earlier : refusal_of i (Some (Sum first second)) ≡ 0 → (first < i) × (second < i)
   names_earlier e = go (ltb first i) (ltb second i) refl refl
     where
       go : (s t : Bool) → ltb first i ≡ s → ltb second i ≡ t → (first < i) × (second < i)
