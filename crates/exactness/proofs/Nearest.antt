@@ -12,7 +12,7 @@ use lib.Ieee.Fits.{down_pos}
 use lib.Ieee.Scale.{round_same, finite}
 use Rattle.rounding.specs.declared.Direction.TheVariants.{Nearest}
 use Rattle.rounding.specs.Rounding.{round_to}
-use Rattle.rounding.proofs.Rounding.{nearest_is_round}
+use Rattle.rounding.proofs.Rounded.{nearest_is_round}
 use Rattle.ieee754.specs.Operations.{sum_to, plus, fused_multiply_add}
 
 -- ---- sums, and the fused multiply-add

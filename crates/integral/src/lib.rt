@@ -12,7 +12,7 @@ ghost use Rattle.rounding.specs.Rounding.{whole, round_to};
 ghost use Rattle.ieee754.specs.Operations.{round_to_integral, first_nan, round_bits, floor_bits};
 
 use operands::{negative, quiet};
-use rounding::{Direction, INFINITY, LEADING, SIGN, round_shift, round_wide, sign_bit};
+use rounding::{Direction, INFINITY, LEADING, Rounding, SIGN, sign_bit};
 use wide::Wide;
 
 // The pattern of 2^52, from which on every float is a whole number.
@@ -21,25 +21,25 @@ const ALL_WHOLE: u64 = 0x4330000000000000;
 const TINY: u64 = 0x3f40000000000000;
 
 // A whole number as a float.
-fn from_whole(dir: Direction, neg: bool, w: u64) -> u64
-    ensures { result ≡ to_bits binary64 (round_to dir binary64 neg w 1) }
+fn from_whole(r: Rounding, w: u64) -> u64
+    ensures { result ≡ to_bits binary64 (round_to r.dir binary64 r.neg w 1) }
 {
     if w == 0 {
-        sign_bit(neg)
+        sign_bit(r.neg)
     } else {
-        round_wide(dir, neg, Wide { hi: 0, lo: w }, 2273)
+        r.round_wide(Wide { hi: 0, lo: w }, 2273)
     }
 }
 
 // The size x of a pattern, not zero and below that of 2^52, as a whole number.
-fn whole_size(dir: Direction, neg: bool, x: u64) -> u64
+fn whole_size(r: Rounding, x: u64) -> u64
     requires { (0 < x) × (x < 0x4330000000000000) }
-    ensures { (q k : ℕ) → x ≡ k * 0x10000000000000 + q → q < 2 ^ 53 → ((k ≡ 0) ⊎ (2 ^ 52 ≤ q)) → result ≡ whole dir neg (q * 2 ^ k) (2 ^ 1074) }
+    ensures { (q k : ℕ) → x ≡ k * 0x10000000000000 + q → q < 2 ^ 53 → ((k ≡ 0) ⊎ (2 ^ 52 ≤ q)) → result ≡ whole r.dir r.neg (q * 2 ^ k) (2 ^ 1074) }
 {
     if x < TINY {
-        round_shift(dir, neg, 1, 63)
+        r.round_shift(1, 63)
     } else {
-        round_shift(dir, neg, LEADING + x % LEADING, 1075 - x / LEADING)
+        r.round_shift(LEADING + x % LEADING, 1075 - x / LEADING)
     }
 }
 
@@ -57,8 +57,11 @@ fn integral_in(dir: Direction, x: u64) -> u64
     if m == 0 {
         return x;
     }
-    let neg = negative(x);
-    from_whole(dir, neg, whole_size(dir, neg, m))
+    let r = Rounding {
+        dir,
+        neg: negative(x),
+    };
+    from_whole(r, whole_size(r, m))
 }
 
 // x as a whole number: the nearest, a tie to the even one.

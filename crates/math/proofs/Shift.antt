@@ -20,7 +20,7 @@ use lib.Ieee.Scale.{round_same}
 use Rattle.rounding.specs.declared.Direction.TheVariants.{Nearest}
 use Rattle.rounding.specs.Rounding.{whole}
 use Rattle.rounding.proofs.Place.{Compares, compares}
-use Rattle.rounding.proofs.Rounding.{nearest_is_round}
+use Rattle.rounding.proofs.Rounded.{nearest_is_round}
 use Rattle.ieee754.specs.Operations.{round_to_integral}
 
 -- ---- the nearest whole number, an even number away

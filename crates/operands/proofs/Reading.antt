@@ -17,7 +17,7 @@ use Rattle.rounding.specs.declared.Direction.{Direction}
 use Rattle.rounding.specs.Rounding.{round_to}
 use Rattle.rounding.specs.Machine.{sign_bit, overflow_bits, packed, Stands}
 use Rattle.rounding.proofs.Place.{exact, Sits, whole_at, whole_exact}
-use Rattle.rounding.proofs.Rounding.{bits_at}
+use Rattle.rounding.proofs.Rounded.{bits_at}
 use Rattle.ieee754.proofs.Nans.{nan_pattern, nan_read}
 use Rattle.operands.specs.Machine.{sign_of, magnitude}
 

@@ -16,7 +16,7 @@ use Rattle.rounding.specs.declared.Direction.{Direction}
 use Rattle.rounding.specs.Rounding.{round_to}
 use Rattle.rounding.specs.Machine.{packed, normal_bits, Stands}
 use Rattle.rounding.proofs.Place.{whole_same}
-use Rattle.rounding.proofs.Rounding.{bits_leading, bits_normal}
+use Rattle.rounding.proofs.Rounded.{bits_leading, bits_normal}
 
 -- w, shifted up by its leading zeros, fills a word
 pub record Leads (w z : ℕ) : Type 0 where

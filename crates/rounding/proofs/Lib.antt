@@ -2,7 +2,7 @@
 pub mod Place
 pub mod Increment
 pub mod Pattern
-pub mod Rounding
+pub mod Rounded
 pub mod Leading
 pub mod Fits
 mod Examples

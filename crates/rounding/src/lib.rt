@@ -73,125 +73,12 @@ pub fn sign_bit(neg: bool) -> u64
     if neg { SIGN } else { 0 }
 }
 
-// What a direction asks for is made for all of them and one is picked: branches on the direction would become jump tables.
-fn to_nearest(dir: Direction) -> bool
-    ensures { result ≡ to_nearest dir }
-{
-    dir == Direction::Nearest
-}
-
-fn is_up(dir: Direction) -> bool
-    ensures { result ≡ rounds_away dir false }
-{
-    dir == Direction::Up
-}
-
-fn is_down(dir: Direction) -> bool
-    ensures { result ≡ rounds_away dir true }
-{
-    dir == Direction::Down
-}
-
-// Whether a directed rounding moves a size away from zero.
-fn rounds_away(dir: Direction, neg: bool) -> bool
-    ensures { result ≡ rounds_away dir neg }
-{
-    if neg { is_down(dir) } else { is_up(dir) }
-}
-
-fn overflow_bits(dir: Direction, neg: bool) -> u64
-    ensures { result ≡ overflow_bits dir neg }
-{
-    let directed = wide::pick(rounds_away(dir, neg), INFINITY, LARGEST);
-    wide::pick(to_nearest(dir), INFINITY, directed)
-}
-
-// The size of a result, which is an infinity's or more where it overflows.
-fn bound(dir: Direction, neg: bool, bits: u64) -> u64
-    ensures { result ≡ bounded_bits dir neg bits }
-{
-    if bits < INFINITY {
-        bits
-    } else {
-        overflow_bits(dir, neg)
-    }
-}
-
-// The pattern of a sign and such a size.
-fn pack(dir: Direction, neg: bool, bits: u64) -> u64
-    ensures { result ≡ packed dir neg bits }
-{
-    sign_bit(neg) + bound(dir, neg, bits)
-}
-
 // 2^k - 1.
 fn ones(k: u64) -> u64
     requires { k ≤ 63 }
     ensures { result ≡ 2 ^ k - 1 }
 {
     (1 << k) - 1
-}
-
-fn rounding_increment(dir: Direction, neg: bool, odd: u64, k: u64) -> u64
-    requires { (1 ≤ k) × (k ≤ 63) × (odd ≤ 1) }
-    ensures { result ≡ increment dir neg odd k }
-{
-    let nearest = ones(k - 1) + odd;
-    let directed = wide::pick(rounds_away(dir, neg), ones(k), 0);
-    wide::pick(to_nearest(dir), nearest, directed)
-}
-
-// m / 2^k as a whole number.
-pub fn round_shift(dir: Direction, neg: bool, m: u64, k: u64) -> u64
-    requires { (1 ≤ k) × (k ≤ 63) }
-    ensures { result ≡ whole dir neg m (2 ^ k) }
-{
-    let q = m >> k;
-    let rest = m % (1 << k);
-    q + ((rest + rounding_increment(dir, neg, q % 2, k)) >> k)
-}
-
-// m * 2^e in units of 2^-2337, at least the least normal number, rounded: the pattern without a sign, an infinity's or more where the
-// result overflows. It is the quotient, plus a step of the exponent field for each digit that is dropped beyond the 11 of the least
-// normal number, so that a carry moves on into the field by itself.
-fn normal_bits(dir: Direction, neg: bool, m: u64, e: u64) -> u64
-    requires { (2 ^ 63 ≤ m) × (1252 ≤ e) × (e ≤ 4322) }
-    ensures { result ≡ normal_bits dir neg m e }
-{
-    (e - 1252) * LEADING + round_shift(dir, neg, m, 11)
-}
-
-// m * 2^e in units of 2^-2337, rounded, subnormal or normal.
-fn round_bits(dir: Direction, neg: bool, m: u64, e: u64) -> u64
-    requires { (2 ^ 63 ≤ m) × (e ≤ 4322) }
-    ensures { (num den : ℕ) → Stands 2337 num den m e → to_bits binary64 (round_to dir binary64 neg num den) ≡ packed dir neg result }
-{
-    if 1252 <= e {
-        return normal_bits(dir, neg, m, e);
-    }
-    let half = wide::set_sticky(m / 2, m % 2);
-    if 1199 <= e {
-        round_shift(dir, neg, half, 1262 - e)
-    } else {
-        // less than half of the smallest subnormal number
-        round_shift(dir, neg, 1, 63)
-    }
-}
-
-// m * 2^e in units of 2^-2337, rounded and packed.
-pub fn round_pack(dir: Direction, neg: bool, m: u64, e: u64) -> u64
-    requires { (2 ^ 63 ≤ m) × (e ≤ 4322) }
-    ensures { (num den : ℕ) → Stands 2337 num den m e → result ≡ to_bits binary64 (round_to dir binary64 neg num den) }
-{
-    pack(dir, neg, round_bits(dir, neg, m, e))
-}
-
-// The pattern of a result that is surely a normal number.
-fn pack_normal(dir: Direction, neg: bool, m: u64, e: u64) -> u64
-    requires { (2 ^ 63 ≤ m) × (1252 ≤ e) × (e ≤ 3296) }
-    ensures { result ≡ packed dir neg (normal_bits dir neg m e) }
-{
-    sign_bit(neg) + normal_bits(dir, neg, m, e)
 }
 
 // The 64 leading digits of w, with a sticky bit for the others.
@@ -205,55 +92,166 @@ fn leading_digits(w: Wide) -> u64
     wide::set_sticky((hi << z) + (lo / 2 >> (63 - z)), lo << z)
 }
 
-// The number of two words times 2^e, in units of 2^-2273, rounded and packed. The words stand by themselves: a Wide would be passed in
-// memory.
-fn round_words(dir: Direction, neg: bool, hi: u64, lo: u64, e: u64) -> u64
-    requires { (0 < hi * 2 ^ 64 + lo) × (e ≤ 4194) }
-    ensures { Rounds dir neg (hi * 2 ^ 64 + lo) e result }
-{
-    if hi == 0 {
-        let z = u64::leading_zeros(lo) as u64;
-        round_pack(dir, neg, lo << z, e + 64 - z)
-    } else {
-        let z = u64::leading_zeros(hi) as u64;
-        round_pack(dir, neg, leading_digits(Wide { hi, lo }), e + 128 - z)
+// How a size is rounded: the direction, and the sign of the number that has the size.
+#[derive(Clone, Copy)]
+pub struct Rounding {
+    pub dir: Direction,
+    pub neg: bool,
+}
+
+impl Rounding {
+    // What a direction asks for is made for all of them and one is picked: branches on the direction would become jump tables.
+    fn to_nearest(self) -> bool
+        ensures { result ≡ to_nearest self.dir }
+    {
+        self.dir == Direction::Nearest
+    }
+
+    // Whether a directed rounding moves a size away from zero.
+    fn rounds_away(self) -> bool
+        ensures { result ≡ rounds_away self.dir self.neg }
+    {
+        if self.neg {
+            self.dir == Direction::Down
+        } else {
+            self.dir == Direction::Up
+        }
+    }
+
+    fn overflow_bits(self) -> u64
+        ensures { result ≡ overflow_bits self.dir self.neg }
+    {
+        let directed = wide::pick(self.rounds_away(), INFINITY, LARGEST);
+        wide::pick(self.to_nearest(), INFINITY, directed)
+    }
+
+    // The size of a result, which is an infinity's or more where it overflows.
+    fn bound(self, bits: u64) -> u64
+        ensures { result ≡ bounded_bits self.dir self.neg bits }
+    {
+        if bits < INFINITY {
+            bits
+        } else {
+            self.overflow_bits()
+        }
+    }
+
+    // The pattern of the sign and such a size.
+    fn pack(self, bits: u64) -> u64
+        ensures { result ≡ packed self.dir self.neg bits }
+    {
+        sign_bit(self.neg) + self.bound(bits)
+    }
+
+    fn increment(self, odd: u64, k: u64) -> u64
+        requires { (1 ≤ k) × (k ≤ 63) × (odd ≤ 1) }
+        ensures { result ≡ increment self.dir self.neg odd k }
+    {
+        let nearest = ones(k - 1) + odd;
+        let directed = wide::pick(self.rounds_away(), ones(k), 0);
+        wide::pick(self.to_nearest(), nearest, directed)
+    }
+
+    // m / 2^k as a whole number.
+    pub fn round_shift(self, m: u64, k: u64) -> u64
+        requires { (1 ≤ k) × (k ≤ 63) }
+        ensures { result ≡ whole self.dir self.neg m (2 ^ k) }
+    {
+        let q = m >> k;
+        let rest = m % (1 << k);
+        q + ((rest + self.increment(q % 2, k)) >> k)
+    }
+
+    // m * 2^e in units of 2^-2337, at least the least normal number, rounded: the pattern without a sign, an infinity's or more where
+    // the result overflows. It is the quotient, plus a step of the exponent field for each digit that is dropped beyond the 11 of the
+    // least normal number, so that a carry moves on into the field by itself.
+    fn normal_bits(self, m: u64, e: u64) -> u64
+        requires { (2 ^ 63 ≤ m) × (1252 ≤ e) × (e ≤ 4322) }
+        ensures { result ≡ normal_bits self.dir self.neg m e }
+    {
+        (e - 1252) * LEADING + self.round_shift(m, 11)
+    }
+
+    // m * 2^e in units of 2^-2337, rounded, subnormal or normal.
+    fn round_bits(self, m: u64, e: u64) -> u64
+        requires { (2 ^ 63 ≤ m) × (e ≤ 4322) }
+        ensures { (num den : ℕ) → Stands 2337 num den m e → to_bits binary64 (round_to self.dir binary64 self.neg num den) ≡ packed self.dir self.neg result }
+    {
+        if 1252 <= e {
+            return self.normal_bits(m, e);
+        }
+        let half = wide::set_sticky(m / 2, m % 2);
+        if 1199 <= e {
+            self.round_shift(half, 1262 - e)
+        } else {
+            // less than half of the smallest subnormal number
+            self.round_shift(1, 63)
+        }
+    }
+
+    // m * 2^e in units of 2^-2337, rounded and packed.
+    pub fn round_pack(self, m: u64, e: u64) -> u64
+        requires { (2 ^ 63 ≤ m) × (e ≤ 4322) }
+        ensures { (num den : ℕ) → Stands 2337 num den m e → result ≡ to_bits binary64 (round_to self.dir binary64 self.neg num den) }
+    {
+        self.pack(self.round_bits(m, e))
+    }
+
+    // The pattern of a result that is surely a normal number.
+    fn pack_normal(self, m: u64, e: u64) -> u64
+        requires { (2 ^ 63 ≤ m) × (1252 ≤ e) × (e ≤ 3296) }
+        ensures { result ≡ packed self.dir self.neg (normal_bits self.dir self.neg m e) }
+    {
+        sign_bit(self.neg) + self.normal_bits(m, e)
+    }
+
+    // w * 2^e in units of 2^-2273, rounded and packed.
+    pub fn round_wide(self, w: Wide, e: u64) -> u64
+        requires { (0 < value w) × (e ≤ 4194) }
+        ensures { Rounds self.dir self.neg (value w) e result }
+    {
+        let hi = w.hi;
+        let lo = w.lo;
+        if hi == 0 {
+            let z = u64::leading_zeros(lo) as u64;
+            self.round_pack(lo << z, e + 64 - z)
+        } else {
+            let z = u64::leading_zeros(hi) as u64;
+            self.round_pack(leading_digits(w), e + 128 - z)
+        }
+    }
+
+    // The same, where the result is surely a normal number. To nearest it is short, and stands in its caller's body.
+    pub fn round_normal(self, w: Wide, e: u64) -> u64
+        requires { (0 < w.hi) × (1187 ≤ e) × (e ≤ 3168) }
+        ensures { Rounds self.dir self.neg (value w) e result }
+    {
+        match self.dir {
+            Direction::Nearest => round_nearest(self.neg, w, e),
+            _ => self.round_wide(w, e),
+        }
+    }
+
+    // The same for one word. It may end in a sticky bit where it has 62 digits or more.
+    pub fn round_word(self, w: u64, e: u64) -> u64
+        requires { (0 < w) × (1251 ≤ e) × (e ≤ 3232) }
+        ensures { RoundsWord self.dir self.neg w e result }
+    {
+        let z = u64::leading_zeros(w) as u64;
+        self.pack_normal(w << z, e + 64 - z)
     }
 }
 
-// w * 2^e in units of 2^-2273, rounded and packed.
-pub fn round_wide(dir: Direction, neg: bool, w: Wide, e: u64) -> u64
-    requires { (0 < value w) × (e ≤ 4194) }
-    ensures { Rounds dir neg (value w) e result }
-{
-    round_words(dir, neg, w.hi, w.lo, e)
-}
-
-// The same to nearest, where the result is surely a normal number.
+// round_normal to nearest.
 fn round_nearest(neg: bool, w: Wide, e: u64) -> u64
     requires { (0 < w.hi) × (1187 ≤ e) × (e ≤ 3168) }
     ensures { Rounds Nearest neg (value w) e result }
 {
     let hi = w.hi;
     let z = u64::leading_zeros(hi) as u64;
-    pack_normal(Direction::Nearest, neg, leading_digits(w), e + 128 - z)
-}
-
-// The same in every direction. To nearest it is short, and stands in its caller's body.
-pub fn round_normal(dir: Direction, neg: bool, w: Wide, e: u64) -> u64
-    requires { (0 < w.hi) × (1187 ≤ e) × (e ≤ 3168) }
-    ensures { Rounds dir neg (value w) e result }
-{
-    match dir {
-        Direction::Nearest => round_nearest(neg, w, e),
-        _ => round_wide(dir, neg, w, e),
-    }
-}
-
-// The same for one word. It may end in a sticky bit where it has 62 digits or more.
-pub fn round_word(dir: Direction, neg: bool, w: u64, e: u64) -> u64
-    requires { (0 < w) × (1251 ≤ e) × (e ≤ 3232) }
-    ensures { RoundsWord dir neg w e result }
-{
-    let z = u64::leading_zeros(w) as u64;
-    pack_normal(dir, neg, w << z, e + 64 - z)
+    let nearest = Rounding {
+        dir: Direction::Nearest,
+        neg,
+    };
+    nearest.pack_normal(leading_digits(w), e + 128 - z)
 }

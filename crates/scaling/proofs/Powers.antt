@@ -20,7 +20,7 @@ use Rattle.rounding.specs.declared.Direction.TheVariants.{Nearest}
 use Rattle.rounding.specs.Rounding.{whole, round_to}
 use Rattle.rounding.specs.Machine.{sign_bit, overflow_bits, packed, Stands}
 use Rattle.rounding.proofs.Place.{under, whole_at, Sits}
-use Rattle.rounding.proofs.Rounding.{bits_at, bits_normal}
+use Rattle.rounding.proofs.Rounded.{bits_at, bits_normal}
 use Rattle.ieee754.specs.Operations.{scale_b, quiet, scale_bits}
 use Rattle.ieee754.proofs.Nans.{nan_first, number_last}
 use Rattle.operands.specs.Machine.{sign_of, magnitude, scaled_exponent}

@@ -9,7 +9,7 @@ ghost use Rattle.operands.specs.Machine.{Regular, scaled_exponent};
 ghost use Rattle.ieee754.specs.Operations.{scale_bits};
 
 use operands::{negative, quiet, read};
-use rounding::{Direction, INFINITY, SIGN, round_pack};
+use rounding::{Direction, INFINITY, Rounding, SIGN};
 
 // The exponent of a significand in units of 2^-2337, from e in units of 2^-1126 and 11 digits fewer.
 fn scaled_exponent(e: u64, n: i32) -> u64
@@ -33,10 +33,13 @@ fn scale_regular(x: u64, n: i32) -> u64
     requires { Regular x }
     ensures { result ≡ scale_bits x n }
 {
-    let neg = negative(x);
+    let nearest = Rounding {
+        dir: Direction::Nearest,
+        neg: negative(x),
+    };
     let p = read(x);
     let e = scaled_exponent(p.e, n);
-    round_pack(Direction::Nearest, neg, p.m * 2048, e)
+    nearest.round_pack(p.m * 2048, e)
 }
 
 // x * 2^n, rounded once to nearest.

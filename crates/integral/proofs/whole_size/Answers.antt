@@ -9,11 +9,11 @@ returns-then-x-lt-TINY c =
     λ q k e b o.
     let s = (goal.at.returns-then-x-lt-TINY c).Start in
     let a = s.args in
-    c.round_shift.ensures ∙ whole_tiny a.dir a.neg a.x q k s.requires.0 c.if-x-lt-TINY.true e b o
+    c.round_shift.ensures ∙ whole_tiny a.r.dir a.r.neg a.x q k s.requires.0 c.if-x-lt-TINY.true e b o
 
 pub returns-else-x-lt-TINY : goal.returns-else-x-lt-TINY
 returns-else-x-lt-TINY c =
     λ q k e b o.
     let s = (goal.at.returns-else-x-lt-TINY c).Start in
     let a = s.args in
-    c.round_shift-else-x-lt-TINY.ensures ∙ whole_shift a.dir a.neg a.x q k c.if-x-lt-TINY.false s.requires.1 e b o
+    c.round_shift-else-x-lt-TINY.ensures ∙ whole_shift a.r.dir a.r.neg a.x q k c.if-x-lt-TINY.false s.requires.1 e b o

@@ -4,7 +4,7 @@ use Prim.Native.Nat.{ℕ, ◌+◌, ◌-◌, ◌≤◌}
 use lib.Count.{count_leading_zeros}
 use native.Mathlib.Omega.{arith}
 use Rattle.rounding.specs.declared.Direction.TheVariants.{Nearest}
-use Rattle.rounding.proofs.Rounding.{bits_normal}
+use Rattle.rounding.proofs.Rounded.{bits_normal}
 use Rattle.rounding.proofs.Leading.{Leads, leads, stands_top}
 use Rattle.rounding.proofs.round_nearest.Goals as goal
 use Rattle.rounding.proofs.round_nearest.Goals.{Start}

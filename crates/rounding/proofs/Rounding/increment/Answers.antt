@@ -1,7 +1,7 @@
--- `rounding::rounding_increment` meets its contract. Assumes nothing.
+-- `rounding::Rounding::increment` meets its contract. Assumes nothing.
 use Rattle.std.proofs.Common.{◌-◌, arith}
 use lib.Pow.{pow_pos, pow_mono}
-use Rattle.rounding.proofs.rounding_increment.Goals as goal
+use Rattle.rounding.proofs.Rounding.increment.Goals as goal
 
 pub overflow_add-nearest : goal.overflow_add-nearest
 overflow_add-nearest c =

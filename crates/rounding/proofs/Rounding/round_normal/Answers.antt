@@ -1,11 +1,11 @@
--- `rounding::round_normal` meets its contract. Assumes nothing.
+-- `rounding::Rounding::round_normal` meets its contract. Assumes nothing.
 use Prim.Native.Nat.{ℕ, ◌+◌, ◌*◌, ◌^◌, ◌<◌}
 use mathlib.Core.Path.{sym, subst}
 use native.Mathlib.Omega.{arith}
 use Rattle.wide.specs.Words.{value}
 use Rattle.rounding.specs.declared.Direction.{Direction}
 use Rattle.rounding.specs.Machine.{Rounds}
-use Rattle.rounding.proofs.round_normal.Goals as goal
+use Rattle.rounding.proofs.Rounding.round_normal.Goals as goal
 
 some : (h l : ℕ) → 0 < h → 0 < h * 2 ^ 64 + l
 some h l p = omega arith
@@ -15,4 +15,4 @@ round_wide-requires c = (some c.args.w.hi c.args.w.lo c.requires.0, omega (arith
 
 pub returns-in-Nearest : goal.returns-in-Nearest
 returns-in-Nearest c =
-    subst (λ (d : Direction). Rounds d c.args.neg (value c.args.w) c.args.e c.round_nearest.result) (sym c.in-Nearest.is) c.round_nearest.ensures
+    subst (λ (d : Direction). Rounds d c.args.self.neg (value c.args.w) c.args.e c.round_nearest.result) (sym c.in-Nearest.is) c.round_nearest.ensures
