@@ -13,7 +13,7 @@ ghost use Rattle.operands.specs.Machine.{field_of, Reads, Summands, RoundsSum, f
 ghost use Rattle.fast_fused.specs.Machine.{Near, NearParts, Small, SmallParts, SumOf};
 
 use operands::{Parts, field, is_middle, negative, pick_sign, unlike_signs};
-use rounding::{Direction, LEADING, SIGN};
+use rounding::{Direction, LEADING, Rounding, SIGN};
 use wide::Wide;
 
 // ---- operands
@@ -100,16 +100,20 @@ fn round_exact(neg: bool, w: Wide, e: u64) -> u64
     requires { (1251 ≤ e) × (e ≤ 3168) }
     ensures { RoundsSum Nearest neg (value w) e result }
 {
+    let nearest = Rounding {
+        dir: Direction::Nearest,
+        neg,
+    };
     let hi = w.hi;
     let lo = w.lo;
     if hi == 0 {
         if lo == 0 {
             0
         } else {
-            rounding::round_word(Direction::Nearest, neg, lo, e)
+            nearest.round_word(lo, e)
         }
     } else {
-        rounding::round_normal(Direction::Nearest, neg, w, e)
+        nearest.round_normal(w, e)
     }
 }
 
@@ -167,7 +171,11 @@ fn add_small(s: bool, small: u64, t: bool, large: u64, e: u64) -> u64
     ensures { (A B c : ℕ) → Summands B A c large small e → result ≡ to_bits binary64 (sum_to Nearest s A t B c) }
 {
     let w = wide::pick_word(s == t, large + small, large - small);
-    rounding::round_word(Direction::Nearest, t, w, e)
+    let nearest = Rounding {
+        dir: Direction::Nearest,
+        neg: t,
+    };
+    nearest.round_word(w, e)
 }
 
 fn fused_small(a: u64, b: u64, c: u64) -> u64

@@ -20,7 +20,7 @@ ghost use Rattle.multiply_add.specs.Fused.{fused_reply};
 ghost use Rattle.operands.specs.Machine.{magnitude, Regular, Ready, product_size, addend_size, Addends, RoundsSum, fused_floats};
 
 use operands::{NAN, Parts, is_regular, negative, quiet, read, unlike_signs};
-use rounding::{Direction, INFINITY, SIGN, UnknownDirection, round_normal, round_wide, sign_bit};
+use rounding::{Direction, INFINITY, Rounding, SIGN, UnknownDirection, sign_bit};
 use wide::Wide;
 
 // ---- finite numbers that are not zero
@@ -33,33 +33,33 @@ fn zero_sign(dir: Direction) -> bool
 }
 
 // w at the exponent e, rounded and packed; zero is an exact zero sum of unlike signs.
-fn round_sum(dir: Direction, neg: bool, w: Wide, e: u64) -> u64
+fn round_sum(r: Rounding, w: Wide, e: u64) -> u64
     requires { e ≤ 4194 }
-    ensures { RoundsSum dir neg (value w) e result }
+    ensures { RoundsSum r.dir r.neg (value w) e result }
 {
     if wide::is_zero(w) {
-        sign_bit(zero_sign(dir))
+        sign_bit(zero_sign(r.dir))
     } else {
-        round_wide(dir, neg, w, e)
+        r.round_wide(w, e)
     }
 }
 
 // The same, short where the sum is surely rounded to a normal number.
-fn round_usual(dir: Direction, neg: bool, w: Wide, e: u64) -> u64
+fn round_usual(r: Rounding, w: Wide, e: u64) -> u64
     requires { e ≤ 4194 }
-    ensures { RoundsSum dir neg (value w) e result }
+    ensures { RoundsSum r.dir r.neg (value w) e result }
 {
     let hi = w.hi;
     if hi == 0 {
-        return round_sum(dir, neg, w, e);
+        return round_sum(r, w, e);
     }
     if e < 1187 {
-        return round_sum(dir, neg, w, e);
+        return round_sum(r, w, e);
     }
     if 3168 < e {
-        return round_sum(dir, neg, w, e);
+        return round_sum(r, w, e);
     }
-    round_normal(dir, neg, w, e)
+    r.round_normal(w, e)
 }
 
 // ±x ±y at the exponent e, rounded and packed. The sum and both differences are made, and one of them is picked: the
@@ -73,7 +73,11 @@ fn add_signed(dir: Direction, s: bool, x: Wide, t: bool, y: Wide, e: u64) -> u64
     let down = wide::sub(x, y);
     let under = SIGN <= down.hi;
     let w = wide::pick(s == t, sum, wide::pick(under, up, down));
-    round_usual(dir, wide::pick(under, t, s), w, e)
+    let r = Rounding {
+        dir,
+        neg: wide::pick(under, t, s),
+    };
+    round_usual(r, w, e)
 }
 
 // ±p * 2^pe ±q * 2^qe, rounded and packed.
@@ -127,10 +131,10 @@ fn fused_nonzero(dir: Direction, a: u64, b: u64, c: u64) -> u64
 // ---- zeros, infinities and NaNs
 
 // ±a * b, rounded and packed.
-fn product_parts(dir: Direction, s: bool, a: Parts, b: Parts) -> u64
-    ensures { (A d : ℕ) → 0 < d → A * 2 ^ 2273 ≡ product_size a b * d → result ≡ to_bits binary64 (round_to dir binary64 s A d) }
+fn product_parts(r: Rounding, a: Parts, b: Parts) -> u64
+    ensures { (A d : ℕ) → 0 < d → A * 2 ^ 2273 ≡ product_size a b * d → result ≡ to_bits binary64 (round_to r.dir binary64 r.neg A d) }
 {
-    round_wide(dir, s, product(a, b), a.e + b.e)
+    r.round_wide(product(a, b), a.e + b.e)
 }
 
 // a * b + c for finite a and b that are not zero, and a c that is.
@@ -138,8 +142,11 @@ fn fused_zero_addend(dir: Direction, a: u64, b: u64, c: u64) -> u64
     requires { Regular a × Regular b × (magnitude c ≡ 0) }
     ensures { result ≡ fused_floats dir a b c }
 {
-    let s = unlike_signs(a, b);
-    product_parts(dir, s, read(a), read(b))
+    let r = Rounding {
+        dir,
+        neg: unlike_signs(a, b),
+    };
+    product_parts(r, read(a), read(b))
 }
 
 // A zero product with the sign s, plus a finite c.
