@@ -2,13 +2,13 @@
 use mathlib.Core.Path.{◌≡◌, refl, sym, ap, ◌∙◌, subst}
 use mathlib.Core.Logic.{◌≢◌, ⊎_elim}
 use mathlib.Core.Bool.{Bool, true, false, cond, beq}
-use Prim.Native.Nat.{ℕ, ◌+◌, ◌-◌, ◌*◌, ◌%◌, ◌^◌, ◌≤◌, ◌<◌}
-use native.Mathlib.Nat.{le_of_eq, le_trans, lt_of_lt_of_le, zero-add, mul_assoc}
+use Prim.Native.Nat.{min, ℕ, ◌+◌, ◌-◌, ◌*◌, ◌%◌, ◌^◌, ◌≤◌, ◌<◌}
+use Rattle.std.proofs.Math.Nat.{min-eq_left, min-eq_right}
+use native.Mathlib.Nat.{le_of_lt, le_of_eq, le_trans, lt_of_lt_of_le, zero-add, mul_assoc}
 use native.Mathlib.Omega.{arith}
 use lib.Arith.{digits_lt}
-use lib.Dec.{ltb, lit≤}
+use lib.Dec.{lit≤}
 use lib.Pow.{pow-add, pow_pos, pow_mono}
-use borrow.Author.Tests.{lt-ltb, le-ltb}
 use lib.Ieee.{binary64, to_bits}
 use Rattle.wide.specs.Words.{sticky, jammed}
 use Rattle.wide.proofs.Nat.{le_or_gt}
@@ -24,10 +24,10 @@ use Rattle.multiply_add.proofs.Products.{product_ready}
 
 -- ---- the high word, shifted down by k more; from 63 on all that is left is the sticky bit
 
-pub down : (h l top n k r : ℕ) → h < 2 ^ 64 → l < 2 ^ 64 → top ≡ sticky h l → n ≡ cond (ltb k 63) k 63 → r ≡ jammed top (2 ^ n) → r ≡ jammed (h * 2 ^ 64 + l) (2 ^ (64 + k))
+pub down : (h l top n k r : ℕ) → h < 2 ^ 64 → l < 2 ^ 64 → top ≡ sticky h l → n ≡ min k 63 → r ≡ jammed top (2 ^ n) → r ≡ jammed (h * 2 ^ 64 + l) (2 ^ (64 + k))
 down h l top n k r H L et en er = ⊎_elim
-    (λ (g : 63 ≤ k). far (h * 2 ^ 64 + l) (64 + k) r (digits_lt H L) (more k g) (at 63 (en ∙ ap (λ (b : Bool). cond b k 63) (le-ltb k 63 g))))
-    (λ (g : k < 63). at k (en ∙ ap (λ (b : Bool). cond b k 63) (lt-ltb k 63 g)))
+    (λ (g : 63 ≤ k). far (h * 2 ^ 64 + l) (64 + k) r (digits_lt H L) (more k g) (at 63 (en ∙ min-eq_right g)))
+    (λ (g : k < 63). at k (en ∙ min-eq_left (le_of_lt g)))
     (le_or_gt 63 k)
   where
     more : (k : ℕ) → 63 ≤ k → 127 ≤ 64 + k

@@ -3,7 +3,7 @@
 // other operands are handed to `multiply_add::fused_nearest`.
 #![tactic(auto)]
 
-ghost use Rattle.std.specs.Prelude.{◌≡◌, true, ℕ, ◌+◌, ◌-◌, ◌*◌, ◌^◌, ◌≤◌, ◌<◌};
+ghost use Rattle.std.specs.Prelude.{◌≡◌, IsTrue, ℕ, ◌+◌, ◌-◌, ◌*◌, ◌^◌, ◌≤◌, ◌<◌};
 ghost use Rattle.std.specs.Float.Ieee.{to_bits};
 ghost use Rattle.std.specs.Float.{binary64};
 ghost use Rattle.wide.specs.Words.{value, jammed};
@@ -12,7 +12,7 @@ ghost use Rattle.ieee754.specs.Operations.{sum_to, fused_bits};
 ghost use Rattle.operands.specs.Machine.{field_of, Reads, Summands, RoundsSum, fused_floats};
 ghost use Rattle.fast_fused.specs.Machine.{Near, NearParts, Small, SmallParts, SumOf};
 
-use operands::{Parts, field, is_middle, negative, pick_sign, unlike_signs};
+use operands::{Parts, field, is_middle, negative, unlike_signs};
 use rounding::{Direction, LEADING, Rounding, SIGN};
 use wide::Wide;
 
@@ -25,7 +25,7 @@ fn read_normal(b: u64) -> Parts
 {
     Parts {
         m: LEADING + b % LEADING,
-        e: b % SIGN / LEADING + 51,
+        e: field(b) + 51,
     }
 }
 
@@ -34,16 +34,9 @@ fn read_normal(b: u64) -> Parts
 // Whether the last digit of c, of the field z, is a digit of the product of a and b, of the fields x and y, or not far above it.
 fn is_near(x: u64, y: u64, z: u64) -> bool
     requires { (x < 2048) × (y < 2048) × (z < 2048) }
-    ensures { result ≡ true → Near x y z }
+    ensures { IsTrue result → Near x y z }
 {
-    if is_middle(x) {
-        if is_middle(y) {
-            if x + y <= z + 1075 {
-                return z + 1003 <= x + y;
-            }
-        }
-    }
-    false
+    is_middle(x) && is_middle(y) && x + y <= z + 1075 && z + 1003 <= x + y
 }
 
 // m * 2^k.
@@ -82,7 +75,7 @@ fn add_signed(s: bool, p: Wide, t: bool, q: Wide) -> Signed
     let under = SIGN <= down.hi;
     let rest = wide::pick(under, up, down);
     Signed {
-        neg: pick_sign(s == t, s, pick_sign(under, t, s)),
+        neg: wide::pick(s == t, s, wide::pick(under, t, s)),
         size: wide::pick(s == t, sum, rest),
     }
 }
@@ -106,14 +99,12 @@ fn round_exact(neg: bool, w: Wide, e: u64) -> u64
     };
     let hi = w.hi;
     let lo = w.lo;
-    if hi == 0 {
-        if lo == 0 {
-            0
-        } else {
-            nearest.round_word(lo, e)
-        }
-    } else {
+    if hi != 0 {
         nearest.round_normal(w, e)
+    } else if lo != 0 {
+        nearest.round_word(lo, e)
+    } else {
+        0
     }
 }
 
@@ -133,16 +124,9 @@ fn fused_near(a: u64, b: u64, c: u64) -> u64
 // Whether the product of a and b, of the fields x and y, is surely below 2^-19 of c, of the field z.
 fn is_small(x: u64, y: u64, z: u64) -> bool
     requires { (x < 2048) × (y < 2048) × (z < 2048) }
-    ensures { result ≡ true → Small x y z }
+    ensures { IsTrue result → Small x y z }
 {
-    if is_middle(x) {
-        if is_middle(y) {
-            if is_middle(z) {
-                return x + y <= z + 1002;
-            }
-        }
-    }
-    false
+    is_middle(x) && is_middle(y) && is_middle(z) && x + y <= z + 1002
 }
 
 // The high word of p, shifted down by k more, with a sticky bit.
@@ -152,7 +136,7 @@ fn shift_down(p: Wide, k: u64) -> u64
     let hi = p.hi;
     let lo = p.lo;
     let top = wide::set_sticky(hi, lo);
-    let n = wide::least(k, 63);
+    let n = k.min(63);
     wide::set_sticky(top >> n, top % (1 << n))
 }
 
@@ -170,7 +154,7 @@ fn add_small(s: bool, small: u64, t: bool, large: u64, e: u64) -> u64
     requires { (small < 2 ^ 61) × (2 ^ 62 ≤ large) × (large < 2 ^ 63) × (1251 ≤ e) × (e ≤ 3232) }
     ensures { (A B c : ℕ) → Summands B A c large small e → result ≡ to_bits binary64 (sum_to Nearest s A t B c) }
 {
-    let w = wide::pick_word(s == t, large + small, large - small);
+    let w = wide::pick(s == t, large + small, large - small);
     let nearest = Rounding {
         dir: Direction::Nearest,
         neg: t,
@@ -206,11 +190,9 @@ pub fn fused(a: u64, b: u64, c: u64) -> u64
     let z = field(c);
     if is_near(x, y, z) {
         fused_near(a, b, c)
+    } else if is_small(x, y, z) {
+        fused_small(a, b, c)
     } else {
-        if is_small(x, y, z) {
-            fused_small(a, b, c)
-        } else {
-            multiply_add::fused_nearest(a, b, c)
-        }
+        multiply_add::fused_nearest(a, b, c)
     }
 }

@@ -50,13 +50,7 @@ fn round_usual(r: Rounding, w: Wide, e: u64) -> u64
     ensures { RoundsSum r.dir r.neg (value w) e result }
 {
     let hi = w.hi;
-    if hi == 0 {
-        return round_sum(r, w, e);
-    }
-    if e < 1187 {
-        return round_sum(r, w, e);
-    }
-    if 3168 < e {
+    if hi == 0 || e < 1187 || 3168 < e {
         return round_sum(r, w, e);
     }
     r.round_normal(w, e)
@@ -154,11 +148,12 @@ fn zero_product(dir: Direction, s: bool, c: u64) -> u64
     requires { magnitude c < 0x7ff0000000000000 }
     ensures { (q : ℕ) → 0 < q → result ≡ to_bits binary64 (plus dir (exactly s 0 q) (of_bits binary64 c)) }
 {
-    if s == negative(c) {
-        return c;
-    }
     let z = c % SIGN;
-    if z == 0 { sign_bit(zero_sign(dir)) } else { c }
+    if s == negative(c) || z != 0 {
+        c
+    } else {
+        sign_bit(zero_sign(dir))
+    }
 }
 
 // a * b + c for finite a and b, where one of the three is zero or c is infinite.
@@ -172,10 +167,7 @@ fn fused_finite(dir: Direction, a: u64, b: u64, c: u64) -> u64
     if z == INFINITY {
         return c;
     }
-    if x == 0 {
-        return zero_product(dir, unlike_signs(a, b), c);
-    }
-    if y == 0 {
+    if x == 0 || y == 0 {
         return zero_product(dir, unlike_signs(a, b), c);
     }
     fused_zero_addend(dir, a, b, c)
@@ -188,10 +180,7 @@ fn infinite_product(s: bool, c: u64) -> u64
 {
     let z = c % SIGN;
     if z == INFINITY {
-        if s == negative(c) {
-            return c;
-        }
-        return NAN;
+        return if s == negative(c) { c } else { NAN };
     }
     sign_bit(s) + INFINITY
 }
@@ -203,10 +192,7 @@ fn fused_infinite(a: u64, b: u64, c: u64) -> u64
 {
     let x = a % SIGN;
     let y = b % SIGN;
-    if x == 0 {
-        return NAN;
-    }
-    if y == 0 {
+    if x == 0 || y == 0 {
         return NAN;
     }
     infinite_product(unlike_signs(a, b), c)
@@ -229,10 +215,7 @@ fn fused_special(dir: Direction, a: u64, b: u64, c: u64) -> u64
     if INFINITY < z {
         return quiet(c);
     }
-    if x == INFINITY {
-        return fused_infinite(a, b, c);
-    }
-    if y == INFINITY {
+    if x == INFINITY || y == INFINITY {
         return fused_infinite(a, b, c);
     }
     fused_finite(dir, a, b, c)
@@ -242,16 +225,8 @@ fn fused_special(dir: Direction, a: u64, b: u64, c: u64) -> u64
 pub fn fused_in(a: u64, b: u64, c: u64, dir: Direction) -> u64
     ensures { result ≡ fused_bits dir a b c }
 {
-    if is_regular(a) {
-        if is_regular(b) {
-            if is_regular(c) {
-                fused_nonzero(dir, a, b, c)
-            } else {
-                fused_special(dir, a, b, c)
-            }
-        } else {
-            fused_special(dir, a, b, c)
-        }
+    if is_regular(a) && is_regular(b) && is_regular(c) {
+        fused_nonzero(dir, a, b, c)
     } else {
         fused_special(dir, a, b, c)
     }

@@ -4,7 +4,7 @@
 
 mod parts;
 
-ghost use Rattle.std.specs.Prelude.{◌≡◌, true, cond, ◌+◌, ◌*◌, ◌^◌, ◌<◌};
+ghost use Rattle.std.specs.Prelude.{◌≡◌, ◌↔◌, IsTrue, ◌*◌, ◌^◌, ◌<◌};
 ghost use Rattle.std.specs.Float.Ieee.{unlike};
 ghost use Rattle.ieee754.specs.Operations.{quiet};
 ghost use Rattle.operands.specs.Machine.{sign_of, field_of, Middle, Regular, Reads};
@@ -31,13 +31,6 @@ pub fn unlike_signs(a: u64, b: u64) -> bool
     negative(a) != negative(b)
 }
 
-// One of two signs, by a conditional move.
-pub fn pick_sign(b: bool, x: bool, y: bool) -> bool
-    ensures { result ≡ cond b x y }
-{
-    if b { x } else { y }
-}
-
 // A NaN with its sign and payload and with its top fraction bit set.
 pub fn quiet(b: u64) -> u64
     ensures { result ≡ quiet b }
@@ -54,9 +47,9 @@ pub fn field(b: u64) -> u64
 
 // Whether an exponent field is far from both ends.
 pub fn is_middle(x: u64) -> bool
-    ensures { (result ≡ true → Middle x) × (Middle x → result ≡ true) }
+    ensures { IsTrue result ↔ Middle x }
 {
-    if x < 600 { false } else { x < 1500 }
+    600 <= x && x < 1500
 }
 
 // Twice the pattern of an infinity, without the sign.
@@ -64,15 +57,11 @@ const TWICE_INFINITY: u64 = 0xffe0000000000000;
 
 // Whether b is finite and not zero.
 pub fn is_regular(b: u64) -> bool
-    ensures { (result ≡ true → Regular b) × (Regular b → result ≡ true) }
+    ensures { IsTrue result ↔ Regular b }
 {
     // The shift drops the sign; a mask takes two instructions more.
     let twice = b << 1;
-    if twice == 0 {
-        false
-    } else {
-        twice < TWICE_INFINITY
-    }
+    twice != 0 && twice < TWICE_INFINITY
 }
 
 // The fraction of a subnormal number, shifted up to 53 digits.
@@ -91,7 +80,7 @@ pub fn read(b: u64) -> Parts
     requires { Regular b }
     ensures { Reads b result }
 {
-    let field = b % SIGN / LEADING;
+    let field = field(b);
     let fraction = b % LEADING;
     if field == 0 {
         return read_subnormal(fraction);

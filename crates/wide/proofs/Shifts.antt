@@ -1,5 +1,7 @@
 -- The right shifts of a number in two words, with the sticky bit. Assumes nothing.
 use Rattle.std.proofs.Common.{◌≡◌, ℕ, zero, suc, ◌+◌, ◌-◌, ◌*◌, ◌/◌, ◌%◌, ◌^◌, ◌<◌, ◌≤◌, Bool, true, false, cond, eqb, ltb, ◌⊎◌, sym, refl, ap, ◌∙◌, subst, ap₂, inl, inr, le_of_eq, lt_of_lt_of_le, mod-lt, mul_assoc, suc-mul, mul_comm, add-mul, one-mul, div-add-mod', zero-add, zero-mul, mul-one, mul_right_comm, arith, pow_pos, pow_mono, pow-add, shr_lt, le-ltb, lt-ltb}
+use Rattle.std.specs.Prelude.{min}
+use Rattle.std.proofs.Math.Nat.{min-eq_left, min-eq_right}
 use lib.Arith.{digits_div, digits_mod, digits_lt}
 use lib.Pow.{mod-mod-pow}
 use Rattle.wide.specs.declared.Wide.{Wide}
@@ -132,7 +134,7 @@ far n t r N T e = jam_is (pow_pos t) (go n (2 ^ 127) (2 ^ t) r N (pow_mono {i = 
         many (suc r) n u l (near o p q) = let a : suc (suc (suc r)) * u ≡ suc r * u + u + u = suc-mul (suc (suc r)) u ∙ ap (λ (x : ℕ). x + u) (suc-mul (suc r) u) in let b : suc r * u ≡ r * u + u = suc-mul r u in omega arith
     go n u v zero l m (near o p q) = absurd (omega arith)
 
-pub shift_jammed : (x y : Wide) (t k r : ℕ) → value x < 2 ^ 128 → k ≡ cond (ltb t 127) t 127 → value y ≡ jammed (value x) (2 ^ 64) → r ≡ jammed (value (cond (ltb k 64) x y)) (2 ^ (k % 64)) → r ≡ jammed (value x) (2 ^ t)
+pub shift_jammed : (x y : Wide) (t k r : ℕ) → value x < 2 ^ 128 → k ≡ min t 127 → value y ≡ jammed (value x) (2 ^ 64) → r ≡ jammed (value (cond (ltb k 64) x y)) (2 ^ (k % 64)) → r ≡ jammed (value x) (2 ^ t)
 shift_jammed x y t k r X ek ey er = clamped (le_or_gt 127 t)
   where
     at : (k : ℕ) → k ≤ 127 → r ≡ jammed (value (cond (ltb k 64) x y)) (2 ^ (k % 64)) → r ≡ jammed (value x) (2 ^ k)
@@ -150,10 +152,10 @@ shift_jammed x y t k r X ek ey er = clamped (le_or_gt 127 t)
 
     clamped : (127 ≤ t) ⊎ (t < 127) → r ≡ jammed (value x) (2 ^ t)
     clamped (inl l) =
-        let e : k ≡ 127 = ek ∙ ap (λ (b : Bool). cond b t 127) (le-ltb t 127 l) in
+        let e : k ≡ 127 = ek ∙ min-eq_right l in
         far (value x) t r X l (at 127 (omega arith) (subst (λ (k : ℕ). r ≡ jammed (value (cond (ltb k 64) x y)) (2 ^ (k % 64))) e er))
     clamped (inr l) =
-        let e : k ≡ t = ek ∙ ap (λ (b : Bool). cond b t 127) (lt-ltb t 127 l) in
+        let e : k ≡ t = ek ∙ min-eq_left (small t l) in
         at t (small t l) (subst (λ (k : ℕ). r ≡ jammed (value (cond (ltb k 64) x y)) (2 ^ (k % 64))) e er)
       where
         small : (t : ℕ) → t < 127 → t ≤ 127

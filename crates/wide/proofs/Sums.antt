@@ -1,5 +1,5 @@
 -- Sums and differences of numbers in two words, from those of the words. The word's base is a variable, W. Assumes nothing.
-use Rattle.std.proofs.Common.{◌≡◌, ℕ, ◌+◌, ◌*◌, ◌%◌, ◌^◌, ◌<◌, ◌≤◌, false, eqb, sym, ap, ◌∙◌, ap₂, add-zero, add-mul, one-mul, zero-add, arith, ne_eqb}
+use Rattle.std.proofs.Common.{◌≡◌, ℕ, ◌+◌, ◌*◌, ◌%◌, ◌^◌, ◌<◌, ◌≤◌, sym, ap, ◌∙◌, ap₂, add-zero, add-mul, one-mul, arith}
 use native.Mathlib.Nat.{mod-add-mod}
 use lib.Arith.{digits_div, digits_mod, mod-mul}
 
@@ -46,14 +46,3 @@ sub_borrow xh xl yh yl h h' l a b c d e f g =
   where
     swap : (h y : ℕ) → h + y + 1 ≡ h + 1 + y
     swap h y = omega arith
-
--- ---- `is_zero`
-
-pub zero_low : (h l : ℕ) → h ≡ 0 → eqb l 0 ≡ eqb (h * 2 ^ 64 + l) 0
-zero_low h l e = ap (λ (x : ℕ). eqb x 0) (sym (ap (λ (x : ℕ). x * 2 ^ 64 + l) e ∙ zero-add l))
-
-pub zero_high : (h l : ℕ) → (h ≡ 0 → ⊥) → false ≡ eqb (h * 2 ^ 64 + l) 0
-zero_high h l n = sym (ne_eqb (h * 2 ^ 64 + l) 0 (λ e. n (none h l e)))
-  where
-    none : (h l : ℕ) → h * 2 ^ 64 + l ≡ 0 → h ≡ 0
-    none h l e = omega arith

@@ -3,7 +3,7 @@
 // specs/Words.antt defines.
 #![tactic(auto)]
 
-ghost use Rattle.std.specs.Prelude.{◌≡◌, ◌+◌, ◌*◌, ◌/◌, ◌%◌, ◌^◌, ◌<◌, ◌≤◌, if◌then◌else◌, ◌==◌, nat_lt};
+ghost use Rattle.std.specs.Prelude.{◌≡◌, ◌+◌, ◌*◌, ◌/◌, ◌%◌, ◌^◌, ◌<◌, ◌≤◌, if◌then◌else◌, ◌==◌};
 ghost use Rattle.wide.specs.Words.{value, sticky, jammed};
 
 // hi * 2^64 + lo.
@@ -85,7 +85,7 @@ pub fn sub(x: Wide, y: Wide) -> Wide
 pub fn is_zero(x: Wide) -> bool
     ensures { result ≡ (value x == 0) }
 {
-    if x.hi == 0 { x.lo == 0 } else { false }
+    x.hi == 0 && x.lo == 0
 }
 
 // One of two values, by a conditional move: what depends on the operands' bits must not become a branch.
@@ -130,17 +130,10 @@ fn shift_bits(x: Wide, t: u64) -> Wide
     }
 }
 
-// The smaller of two numbers.
-pub fn least(a: u64, b: u64) -> u64
-    ensures { result ≡ (if nat_lt a b then a else b) }
-{
-    if a < b { a } else { b }
-}
-
 // x / 2^t, with the sticky bit. From 127 on all that is left of x is the sticky bit.
 pub fn shift_right_jam(x: Wide, t: u64) -> Wide
     ensures { value result ≡ jammed (value x) (2 ^ t) }
 {
-    let k = least(t, 127);
+    let k = t.min(127);
     shift_bits(pick(k < 64, x, shift_word(x)), k % 64)
 }

@@ -26,7 +26,7 @@ returns c =
     let U = c.sub-up.result in
     let under = leb 0x8000000000000000 D.hi in
     let same = beq a.s a.t in
-    picked (2 ^ 128) (2 ^ 127) (value a.p) (value a.q) (value S) (value D) (value U) refl c.requires.0 c.requires.1 (digits_lt c.sub-down.type_inv.1.1.0.1 c.sub-down.type_inv.1.1.1.0.1) (digits_lt c.sub-up.type_inv.1.1.0.1 c.sub-up.type_inv.1.1.1.0.1) c.add-sum.ensures c.sub-down.ensures c.sub-up.ensures a.s a.t under c.pick_sign-2.result (value c.pick.result)
+    picked (2 ^ 128) (2 ^ 127) (value a.p) (value a.q) (value S) (value D) (value U) refl c.requires.0 c.requires.1 (digits_lt c.sub-down.type_inv.1.1.0.1 c.sub-down.type_inv.1.1.1.0.1) (digits_lt c.sub-up.type_inv.1.1.0.1 c.sub-up.type_inv.1.1.1.0.1) c.add-sum.ensures c.sub-down.ensures c.sub-up.ensures a.s a.t under c.pick-2.result (value c.pick-3.result)
     (λ e. high D.hi D.lo (leb-true 0x8000000000000000 D.hi e)) (λ e. digits_lt (leb-false 0x8000000000000000 D.hi e) c.sub-down.type_inv.1.1.1.0.1)
-    (c.pick_sign-2.ensures ∙ ap (λ (b : Bool). cond same a.s b) c.pick_sign.ensures)
-    (ap value (c.pick.ensures ∙ ap (λ (w : Wide). cond same S w) c.pick-rest.ensures) ∙ value_cond same S (cond under U D) ∙ ap (λ (n : ℕ). cond same (value S) n) (value_cond under U D))
+    (c.pick-2.ensures ∙ ap (λ (b : Bool). cond same a.s b) c.pick.ensures)
+    (ap value (c.pick-3.ensures ∙ ap (λ (w : Wide). cond same S w) c.pick-rest.ensures) ∙ value_cond same S (cond under U D) ∙ ap (λ (n : ℕ). cond same (value S) n) (value_cond under U D))

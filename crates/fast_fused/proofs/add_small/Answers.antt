@@ -14,10 +14,10 @@ some false x y h l = omega arith
 pub round_word-requires : goal.round_word-requires
 round_word-requires c =
     let a = c.args in
-    (subst (λ (n : ℕ). 0 < n) (sym c.pick_word-w.ensures) (some (beq a.s a.t) a.large a.small c.requires.0 c.requires.1), c.requires.3, c.requires.4)
+    (subst (λ (n : ℕ). 0 < n) (sym c.pick-w.ensures) (some (beq a.s a.t) a.large a.small c.requires.0 c.requires.1), c.requires.3, c.requires.4)
 
 pub returns : goal.returns
 returns c =
     λ A B n h.
     let a = c.args in
-    small_answer Nearest a.s a.t h c.requires.1 c.requires.0 c.pick_word-w.result c.round_word.result c.round_word.ensures (beq a.s a.t) refl c.pick_word-w.ensures
+    small_answer Nearest a.s a.t h c.requires.1 c.requires.0 c.pick-w.result c.round_word.result c.round_word.ensures (beq a.s a.t) refl c.pick-w.ensures

@@ -1,5 +1,5 @@
 -- `fast_fused::read_normal` meets its contract. Assumes nothing.
-use mathlib.Core.Path.{◌≡◌, refl}
+use mathlib.Core.Path.{◌≡◌, refl, ap, ◌∙◌}
 use Prim.Native.Nat.{ℕ, suc, ◌+◌, ◌-◌, ◌%◌, ◌/◌, ◌≤◌, ◌<◌}
 use native.Mathlib.Omega.{arith}
 use Rattle.operands.proofs.Reading.{reads_mid}
@@ -19,4 +19,5 @@ pub returns : goal.returns
 returns c =
     let b = c.args.b in
     let x = field_of b in
-    (reads_mid b (x - 1) _ _ (one_more x c.requires.0) (finite (b % 0x8000000000000000) c.requires.1) refl (exponent x c.requires.0), refl)
+    let e = ap (λ (n : ℕ). n + 51) c.field.ensures in
+    (reads_mid b (x - 1) _ _ (one_more x c.requires.0) (finite (b % 0x8000000000000000) c.requires.1) refl (e ∙ exponent x c.requires.0), e)

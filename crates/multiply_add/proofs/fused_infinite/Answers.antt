@@ -11,7 +11,7 @@ use Rattle.operands.specs.Machine.{magnitude}
 use Rattle.multiply_add.proofs.Products.{fused_is}
 use Rattle.multiply_add.proofs.Special.{zero_inf, inf_zero, infinite_product}
 use Rattle.multiply_add.proofs.fused_infinite.Goals as goal
-use Rattle.multiply_add.proofs.fused_infinite.Goals.{Start}
+use Rattle.multiply_add.proofs.fused_infinite.Goals.{then-x-eq0-via-then-x-eq0, then-x-eq0-via-else-x-eq0+then-y-eq0}
 
 small : (x : ℕ) → x ≡ 0 → x < 0x7ff0000000000000
 small x e = omega arith
@@ -25,13 +25,13 @@ full x y h f e = ⊎_elim (λ q. q) (λ l. absurd (no y e (f l))) (eq-or-lt_of_l
     no y a b = omega arith
 
 pub returns-then-x-eq0 : goal.returns-then-x-eq0
-returns-then-x-eq0 c = λ d. let s = (goal.at.returns-then-x-eq0 c).Start in let a = s.args in zero_inf d a.a a.b a.c c.if-x-eq0.true (s.requires.3 (small (magnitude a.a) c.if-x-eq0.true))
-
-pub returns-then-y-eq0 : goal.returns-then-y-eq0
-returns-then-y-eq0 c =
+returns-then-x-eq0 c =
     λ d.
     let a = c.args in
-    inf_zero d a.a a.b a.c (full (magnitude a.a) (magnitude a.b) c.requires.0 c.requires.3 c.if-y-eq0.true) c.if-y-eq0.true
+    elim c.then-x-eq0.branch [
+      | then-x-eq0-via-then-x-eq0 w ↦ zero_inf d a.a a.b a.c w.if-x-eq0.true (c.requires.3 (small (magnitude a.a) w.if-x-eq0.true))
+      | then-x-eq0-via-else-x-eq0+then-y-eq0 w ↦ inf_zero d a.a a.b a.c (full (magnitude a.a) (magnitude a.b) c.requires.0 c.requires.3 w.if-y-eq0.true) w.if-y-eq0.true
+    ]
 
 pub returns : goal.returns
 returns c =

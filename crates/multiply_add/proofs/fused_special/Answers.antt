@@ -35,8 +35,5 @@ numbers e = fused_numbers _ _ _ _ e.if-x-gt-INFINITY.false e.if-y-gt-INFINITY.fa
 pub returns-then-x-eq-INFINITY : goal.returns-then-x-eq-INFINITY
 returns-then-x-eq-INFINITY c = let e = (goal.at.returns-then-x-eq-INFINITY c).Else-z-gt-INFINITY in c.fused_infinite.ensures e.args.dir ∙ numbers e
 
-pub returns-then-y-eq-INFINITY : goal.returns-then-y-eq-INFINITY
-returns-then-y-eq-INFINITY c = let e = (goal.at.returns-then-y-eq-INFINITY c).Else-z-gt-INFINITY in c.fused_infinite-then-y-eq-INFINITY.ensures e.args.dir ∙ numbers e
-
 pub returns : goal.returns
 returns c = c.fused_finite.ensures ∙ numbers (goal.at.returns c).Else-z-gt-INFINITY

@@ -18,8 +18,8 @@ returns-then-s-negative c =
     let a = c.args in
     infinite_like d a.s a.c c.ranges.c.fits c.if-z-eq-INFINITY.true (ap (λ (t : Bool). beq a.s t) (sym c.negative.ensures) ∙ c.if-s-negative.true) (beq_true a.s c.negative.result c.if-s-negative.true ∙ c.negative.ensures)
 
-pub returns-then-z-eq-INFINITY : goal.returns-then-z-eq-INFINITY
-returns-then-z-eq-INFINITY c =
+pub returns-else-s-negative : goal.returns-else-s-negative
+returns-else-s-negative c =
     λ d.
     let a = c.args in
     infinite_unlike d a.s a.c c.if-z-eq-INFINITY.true (ap (λ (t : Bool). beq a.s t) (sym c.negative.ensures) ∙ c.if-s-negative.false)

@@ -13,6 +13,6 @@ returns c =
     let l = w in
     let s = l in
     let x = s.args.x in
-    let k = l.least-k.result in
-    shift_jammed x w.shift_word.result s.args.t k (value c.shift_bits.result) (digits_lt s.well_formed.0.1.1.0.1 s.well_formed.0.1.1.1.0.1) l.least-k.ensures w.shift_word.ensures
+    let k = l.min-k.result in
+    shift_jammed x w.shift_word.result s.args.t k (value c.shift_bits.result) (digits_lt s.well_formed.0.1.1.0.1 s.well_formed.0.1.1.1.0.1) l.min-k.ensures w.shift_word.ensures
     (c.shift_bits.ensures ∙ ap (λ (y : Wide). jammed (value y) (2 ^ (k % 64))) p.pick.ensures)
