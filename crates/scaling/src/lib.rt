@@ -33,9 +33,10 @@ fn scale_regular(x: u64, n: i32) -> u64
     requires { Regular x }
     ensures { result ≡ scale_bits x n }
 {
+    let neg = negative(x);
     let nearest = Rounding {
         dir: Direction::Nearest,
-        neg: negative(x),
+        neg,
     };
     let p = read(x);
     let e = scaled_exponent(p.e, n);

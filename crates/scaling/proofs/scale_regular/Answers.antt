@@ -11,7 +11,7 @@ use Rattle.rounding.specs.declared.Direction.TheVariants.{Nearest}
 use Rattle.operands.specs.Machine.{sign_of, scaled_exponent}
 use Rattle.scaling.proofs.Powers.{Packs, scale_is, scaled_le, scaled_answer}
 use Rattle.scaling.proofs.scale_regular.Goals as goal
-use Rattle.scaling.proofs.scale_regular.Goals.{After-scaled_exponent-e, After-read-p, Start, After-negative}
+use Rattle.scaling.proofs.scale_regular.Goals.{After-scaled_exponent-e, After-read-p, Start, After-negative-neg}
 
 exponent : (c : After-scaled_exponent-e) → c.scaled_exponent-e.result ≡ scaled_exponent c.read-p.result.e c.args.n
 exponent c = let s = c.before.before.before in c.scaled_exponent-e.ensures ∙ ap (scaled_exponent c.read-p.result.e) (to_z-of_z w32 s.args.n s.ranges.n)
@@ -30,10 +30,10 @@ pub returns : goal.returns
 returns c =
     let e = (goal.at.returns c).After-scaled_exponent-e in
     let r = (goal.at.returns c).After-read-p in
-    let n = (goal.at.returns c).After-negative in
+    let n = (goal.at.returns c).After-negative-neg in
     let s = (goal.at.returns c).Start in
     let p = r.read-p.result in
     let v = r.read-p.ensures in
     scaled_answer Nearest (sign_of s.args.x) p.m p.e c.round_pack.result s.args.n (of_bits binary64 s.args.x) p.low p.high v
-    (subst (λ (x : ℕ). Packs Nearest (sign_of s.args.x) (p.m * 2048) x c.round_pack.result) (exponent e) (subst (λ (t : Bool). Packs Nearest t (p.m * 2048) e.scaled_exponent-e.result c.round_pack.result) n.negative.ensures c.round_pack.ensures))
+    (subst (λ (x : ℕ). Packs Nearest (sign_of s.args.x) (p.m * 2048) x c.round_pack.result) (exponent e) (subst (λ (t : Bool). Packs Nearest t (p.m * 2048) e.scaled_exponent-e.result c.round_pack.result) n.negative-neg.ensures c.round_pack.ensures))
     ∙ scale_is s.args.x s.args.n (le_of_lt s.requires.1)
