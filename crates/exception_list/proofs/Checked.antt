@@ -1,54 +1,18 @@
--- A check comes to the same, whether its next entry is seen now or later; over a whole list it comes to the list's refusal. Assumes nothing.
-use mathlib.Core.Path.{◌≡◌, refl, sym, ap, ◌∙◌}
+-- A list is good where each entry may follow the one before it, the first one minus infinity; so a check from the front comes to the list's refusal. Assumes nothing.
+use mathlib.Core.Path.{◌≡◌, refl, ap, ◌∙◌}
 use mathlib.Core.Bool.{Bool, true, false, ◌&&◌, cond}
 use mathlib.Core.List.{List, [], ◌∷◌}
-use Prim.Native.Nat.{ℕ, zero, suc, ◌+◌, ◌-◌, ◌<◌, ◌≤◌}
-use native.Mathlib.Omega.{arith}
+use Prim.Native.Nat.{ℕ, ◌+◌, ◌<◌, ◌≤◌}
 use native.Mathlib.Numerals.{add-one}
-use lib.Dec.{ltb, eqb, eqb-suc-zero}
+use borrow.Author.Tests.{lt-ltb, le-ltb}
 use lib.ListN.{length, drop, drop_of_length-le}
 use lib.Seq.{drop-cons}
 use lib.Ieee.{Float, nan, inf, fin, lt}
 use lib.Ieee.Scale.{finite}
 use Rattle.exceptions.specs.declared.Entry.{Entry}
 use Rattle.exceptions.specs.Lookup.{nth}
-use Rattle.exception_list.specs.declared.Check.{Check}
-use Rattle.exception_list.specs.List.{is_good, all_good, ascending, bad_entry, refusal_of}
-use Rattle.exception_list.specs.Steps.{check_start, may_follow, refusal_after, check_next, all_follow, checked}
+use Rattle.exception_list.specs.List.{is_good, all_good, ascending, bad_entry, refusal_of, may_follow, all_follow}
 
--- ---- a check's end, and one entry more
--- the refusal that an entry brings about, or 0
-abbrev told : Bool → ℕ
-told f = cond f 0 bad_entry
-
-ended : (list : List Entry) (at : ℕ) (p : Float) (n : ℕ) → length list ≤ at → n ≡ cond (eqb n 0) (told (all_follow p (drop at list))) n
-unfolding all_follow
-ended list at p zero h = ap (λ (l : List Entry). told (all_follow p l)) (sym (drop_of_length-le list h))
-ended list at p (suc n) h = rw eqb-suc-zero
-
-pub end : (list : List Entry) (c : Check) → length list ≤ c.at → c.refusal ≡ checked list c
-unfolding checked
-end list c h = ended list c.at c.last c.refusal h
-
-decided : (f r : Bool) → cond (eqb (told f) 0) (told r) (told f) ≡ told (f && r)
-decided true r = refl
-decided false r = refl
-
-stepped : (list : List Entry) (at : ℕ) (p : Float) (n : ℕ) → at < length list
-    → checked list (check_next (record { at = at; last = p; refusal = n }) (nth list at)) ≡ checked list (record { at = at; last = p; refusal = n })
-unfolding checked check_next refusal_after all_follow
-stepped list at p zero h =
-    decided (may_follow p (nth list at)) (all_follow (nth list at).x (drop (at + 1) list)) ∙ rw (add-one at, drop-cons list at (record { x = nan; hi = nan; lo = nan }) h)
-stepped list at p (suc n) h = simp (eqb-suc-zero n)
-
-pub next : (list : List Entry) (c : Check) → c.at < length list → checked list (check_next c (nth list c.at)) ≡ checked list c
-next list c h = stepped list c.at c.last c.refusal h
-
-pub less_left : (n : ℕ) (c : Check) (e : Entry) {r : Check} → r ≡ check_next c e → c.at < n → n - r.at < n - c.at
-unfolding check_next
-less_left n c e {r} q h = let w : r.at ≡ c.at + 1 = ap (λ (z : Check). z.at) q in omega arith
-
--- ---- a whole check
 exchange : (a b c d : Bool) → (a && b) && (c && d) ≡ (b && c) && (a && d)
 exchange true true c d = refl
 exchange true false c d = refl
@@ -87,10 +51,31 @@ all (e ∷ es) =
     ∙ ap (λ (b : Bool). is_good e && b) (after e es)
     ∙ associate (is_good e) (all_good es) (ascending (e ∷ es))
 
-by_length : (list : List Entry) (b : Bool) → ltb 256 (length list) ≡ b → checked list (check_start (length list)) ≡ refusal_of list
-unfolding checked check_start refusal_of
-by_length list true e = rw e
-by_length list false e = rw e (ap told (all list))
+-- ---- from the front
+-- the entries from i on may follow p
+abbrev pub rest_follows : List Entry → ℕ → Float → Bool
+rest_follows list i p = all_follow p (drop i list)
 
-pub whole : (list : List Entry) → checked list (check_start (length list)) ≡ refusal_of list
-whole list = by_length list (ltb 256 (length list)) refl
+next : (list : List Entry) (i : ℕ) (p : Float) → i < length list → rest_follows list i p ≡ may_follow p (nth list i) && rest_follows list (i + 1) (nth list i).x
+unfolding all_follow
+next list i p h = rw (add-one i, drop-cons list i (record { x = nan; hi = nan; lo = nan }) h)
+
+-- one that may follow, and one that may not
+pub goes_on : (list : List Entry) (i : ℕ) (p : Float) → i < length list → may_follow p (nth list i) ≡ true → rest_follows list (i + 1) (nth list i).x ≡ rest_follows list i p
+goes_on list i p h e = rw (next list i p h, e)
+
+pub stops : (list : List Entry) (i : ℕ) (p : Float) → i < length list → may_follow p (nth list i) ≡ false → rest_follows list i p ≡ false
+stops list i p h e = rw (next list i p h, e)
+
+pub end : (list : List Entry) (i : ℕ) (p : Float) → length list ≤ i → rest_follows list i p ≡ true
+unfolding all_follow
+end list i p h = rw (drop_of_length-le list h)
+
+-- ---- what it comes to
+pub too_many : (list : List Entry) → 256 < length list → 12 ≡ refusal_of list
+unfolding refusal_of
+too_many list h = rw (lt-ltb _ _ h)
+
+pub decided : (list : List Entry) (b : Bool) → length list ≤ 256 → all_follow (inf true) list ≡ b → cond b 0 bad_entry ≡ refusal_of list
+unfolding refusal_of
+decided list b h e = rw (le-ltb _ _ h, ← all list, e)

@@ -1,4 +1,5 @@
--- Laws by which a walk over a lent list goes on: of its check, of the order of a good list, and of a search through it; and what is found in a good list.
+-- Laws by which a walk over a lent list goes on: of its check, of the order of a good list, and of the lookup in it; and what is found in a good list.
+pub mod Finite
 pub mod Checked
 pub mod Rises
 pub mod Searched

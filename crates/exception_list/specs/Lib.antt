@@ -1,3 +1,2 @@
--- What a list is refused by, and what one step of a check or of a search does.
+-- What a list is refused by.
 pub mod List
-pub mod Steps

@@ -41,7 +41,7 @@ pub record Exactly (p : ℕ) (r : Float) : Type 0 where
   pub negative : sign r ≡ ltb p 53
   pub scaled : scaled_score r ≡ scaled_exact p
 
--- for each of the 107 weights there is one such float, and exp2m1Whole gives it
+-- for each of the 107 weights there is one such float, and exp2m1_whole gives it
 pub record WholeExact (p : ℕ) : Type 0 where
   pub exactly : Exactly p (exp2m1_whole (weight p))
   pub only : (r : Float) → Exactly p r → r ≡ exp2m1_whole (weight p)

@@ -4,7 +4,7 @@ use mathlib.Core.Bool.{cond}
 use Prim.Native.Nat.{ℕ}
 use lib.Dec.{eqb}
 use lib.Ieee.{of_bits, eq, lt}
-use Rattle.reply.specs.declared.Reply.TheVariants.{Refused, Bits}
+use Rattle.std.specs.Prelude.{Ok, Err}
 use Rattle.exceptions.specs.declared.Stretch.TheVariants.{First}
 use Rattle.exceptions.specs.Table.{exceptions}
 use Rattle.exceptions.specs.Lookup.{entry_at, entries_from, entries}
@@ -18,4 +18,4 @@ good = refl
 
 pub built_in : BuiltIn
 unfolding scored_with score_bits
-built_in x = ap (λ (n : ℕ). cond (eqb n 0) (Bits (score_with (entries First) x)) (Refused n)) good
+built_in x = ap (λ (n : ℕ). cond (eqb n 0) (Ok (score_with (entries First) x)) (Err n)) good

@@ -4,8 +4,7 @@ use mathlib.Core.Bool.{Bool, true, false, ◌&&◌}
 use mathlib.Core.List.{List, [], ◌∷◌}
 use lib.Dec.{T, eqb}
 use lib.Ieee.{round, add, sub, mul, neg, eq, le, lt, of_bits, to_bits, to_signed}
-use Rattle.reply.specs.declared.Reply.{Reply}
-use Rattle.reply.specs.declared.Reply.TheVariants.{Refused, Bits}
+use Rattle.std.specs.Prelude.{Result, Ok, Err}
 use Rattle.ieee754.specs.Operations.{fused_multiply_add, round_to_integral, first_nan}
 use Rattle.pair.specs.Pair.{bits}
 use Rattle.double_double.specs.Pairs.{fast_two_sum, fast_sum, a_mul, s_mul, d_mul}
@@ -21,13 +20,13 @@ abbrev entry : ℕ → ℕ → ℕ → Entry
 entry x hi lo = record { x = bits x; hi = bits hi; lo = bits lo }
 
 pub data Case : Type 0 where
-  gives : List Entry → ℕ → Reply → Case
+  gives : List Entry → ℕ → Result ℕ ℕ → Case
 
-abbrev same : Reply → Reply → Bool
-same (Refused m) (Refused n) = eqb m n
-same (Bits a) (Bits b) = eqb a b
-same (Refused m) (Bits b) = false
-same (Bits a) (Refused n) = false
+abbrev same : Result ℕ ℕ → Result ℕ ℕ → Bool
+same (Err m) (Err n) = eqb m n
+same (Ok a) (Ok b) = eqb a b
+same (Err m) (Ok b) = false
+same (Ok a) (Err n) = false
 
 unfoldable pub all_right : List Case → Bool
 all_right [] = true
@@ -48,28 +47,28 @@ long = entries_from (λ i. entry (0x3ff0000000000000 + i) 0 0) 0 257
 unfoldable pub cases : List Case
 cases =
     -- found: hi + lo, and an infinite one
-    gives good 0x3ab0000000000000 (Bits 0x4008000000000000) ∷
-    gives good 0x3ac0000000000000 (Bits 0x7ff0000000000000) ∷
+    gives good 0x3ab0000000000000 (Ok 0x4008000000000000) ∷
+    gives good 0x3ac0000000000000 (Ok 0x7ff0000000000000) ∷
     -- -2 ^ -84 has no entry
-    gives good 0xbab0000000000000 (Bits 0xbaa62e42fefa39ef) ∷
+    gives good 0xbab0000000000000 (Ok 0xbaa62e42fefa39ef) ∷
     -- 1 has one, and is not met by step 5: 2 ^ 1 - 1
-    gives good 0x3ff0000000000000 (Bits 0x3ff0000000000000) ∷
+    gives good 0x3ff0000000000000 (Ok 0x3ff0000000000000) ∷
     -- an entry of the first table, whose reply there is 0x397115aa0fb29a6f: without a list two terms decide
-    gives [] 0x3978a5dd21ef35af (Bits 0x397115aa0fb29a70) ∷
+    gives [] 0x3978a5dd21ef35af (Ok 0x397115aa0fb29a70) ∷
     -- steps 1 to 4
-    gives good 0x7ff0000000000001 (Bits 0x7ff8000000000001) ∷
-    gives good 0xffffffffffffffff (Bits 0xffffffffffffffff) ∷
-    gives good 0xfff0000000000000 (Bits 0xbff0000000000000) ∷
-    gives good 0x4090000000000000 (Bits 0x7ff0000000000000) ∷
-    gives good 0x8000000000000000 (Bits 0x8000000000000000) ∷
-    gives good 3 (Bits 2) ∷
+    gives good 0x7ff0000000000001 (Ok 0x7ff8000000000001) ∷
+    gives good 0xffffffffffffffff (Ok 0xffffffffffffffff) ∷
+    gives good 0xfff0000000000000 (Ok 0xbff0000000000000) ∷
+    gives good 0x4090000000000000 (Ok 0x7ff0000000000000) ∷
+    gives good 0x8000000000000000 (Ok 0x8000000000000000) ∷
+    gives good 3 (Ok 2) ∷
     -- refused, whatever the weight
-    gives bad 0x3ab0000000000000 (Refused 13) ∷
-    gives bad 0x7ff0000000000001 (Refused 13) ∷
-    gives bad 0xfff0000000000000 (Refused 13) ∷
-    gives bad 0 (Refused 13) ∷
-    gives long 0x3ab0000000000000 (Refused 12) ∷
-    gives long 0x7ff0000000000001 (Refused 12) ∷
+    gives bad 0x3ab0000000000000 (Err 13) ∷
+    gives bad 0x7ff0000000000001 (Err 13) ∷
+    gives bad 0xfff0000000000000 (Err 13) ∷
+    gives bad 0 (Err 13) ∷
+    gives long 0x3ab0000000000000 (Err 12) ∷
+    gives long 0x7ff0000000000001 (Err 12) ∷
     []
 
 pub replies : T (all_right cases)

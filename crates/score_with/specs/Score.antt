@@ -1,10 +1,8 @@
 -- Request A.4: "Scoring with a lent list replies by 01's steps with that list in step 5", "A refused list yields its number and no score." Definitions only.
-use Rattle.std.specs.Prelude.{◌≡◌, true, false, cond, List, ℕ, ◌<◌, ◌^◌, eqb, unwrap_or}
+use Rattle.std.specs.Prelude.{◌≡◌, true, false, cond, Result, Ok, Err, List, ℕ, ◌<◌, ◌^◌, eqb, unwrap_or}
 use Rattle.std.specs.Float.{binary64}
 use Rattle.std.specs.Float.Ieee.{to_bits}
 use Rattle.pair.specs.Pair.{bits}
-use Rattle.reply.specs.declared.Reply.{Reply}
-use Rattle.reply.specs.declared.Reply.TheVariants.{Refused, Bits}
 use Rattle.exceptions.specs.declared.Entry.{Entry}
 use Rattle.exceptions.specs.declared.Stretch.TheVariants.{First}
 use Rattle.exceptions.specs.Lookup.{find, Finds, entries}
@@ -14,8 +12,8 @@ use Rattle.exp2m1.specs.Range.{is_small}
 use Rattle.exp2m1.specs.Score.{score_with, score_bits}
 
 -- the reply for a lent list and the bits of a weight
-unfoldable pub scored_with : List Entry → ℕ → Reply
-scored_with list x = cond (eqb (refusal_of list) 0) (Bits (score_with list x)) (Refused (refusal_of list))
+unfoldable pub scored_with : List Entry → ℕ → Result ℕ ℕ
+scored_with list x = cond (eqb (refusal_of list) 0) (Ok (score_with list x)) (Err (refusal_of list))
 
 -- where step 5 decides, an entry is found exactly when some entry of the list equals the weight, and then the score is its hi + lo rounded; everywhere else the list makes no difference
 pub record Listed (list : List Entry) (x : ℕ) : Type 0 where
@@ -27,4 +25,4 @@ EveryListed = (list : List Entry) (x : ℕ) → x < 2 ^ 64 → Listed list x
 
 -- the built-in table, lent, gives the built-in scores: those that are claimed to equal the Rust's
 abbrev pub BuiltIn : Type 0
-BuiltIn = (x : ℕ) → scored_with (entries First) x ≡ Bits (score_bits x)
+BuiltIn = (x : ℕ) → scored_with (entries First) x ≡ Ok (score_bits x)
