@@ -8,9 +8,6 @@ use lib.ListN.{length, get_or, drop, length-drop}
 use borrow.Author.Tests.{eq-eqb, ne_eqb}
 use Rattle.words.specs.Bytes.{number_at, words_of}
 use Rattle.words.proofs.Words.{length_words, word_at, same_words}
-use Rattle.rounding.specs.Named.{direction_of}
-use Rattle.rounding.specs.declared.Direction.TheVariants.{Nearest}
-use Rattle.ieee754.specs.Operations.{fused_bits}
 use Rattle.exp2m1.specs.Score.{score_bits}
 use Rattle.sheets.specs.Sheet.{line_count, first_refusal, sheet_refusal}
 use Rattle.sheet_values.specs.Values.{value_of}
@@ -19,24 +16,11 @@ use Rattle.frames.specs.Frame.{items_from, item_bytes, item_count, refusal_to}
 use Rattle.frames.specs.Body.{Body}
 use Rattle.frames.proofs.Items.{items_first, item_one, item_line, items_fit, items_within}
 use Rattle.frames.proofs.Refusals.{good_length, good_lines, good_items, body_length_lem}
-use Rattle.answers.specs.Answers.{named, direction_in, result_at, line_score, result_of, results_of}
+use Rattle.answers.specs.Answers.{result_at, line_score, result_of, results_of}
 
 pub result_one : {kind : ℕ} → kind ≡ 1 → (p : List ℕ) (at : ℕ) → result_at kind p at ≡ score_bits (number_at 8 p at)
 unfolding result_at
 result_one {kind} e p at = rw (eq-eqb kind 1 e) refl
-
-pub result_other : {kind : ℕ} → (kind ≡ 1 → ⊥) → (p : List ℕ) (at : ℕ)
-    → result_at kind p at ≡ fused_bits (direction_in kind p) (number_at 8 p at) (number_at 8 p (at + 8)) (number_at 8 p (at + 16))
-unfolding result_at
-result_other {kind} e p at = rw (ne_eqb kind 1 e) refl
-
-pub direction_named : {kind : ℕ} → kind ≡ 3 → (p : List ℕ) → direction_in kind p ≡ named (direction_of (get_or p 0 0))
-unfolding direction_in
-direction_named {kind} e p = rw (eq-eqb kind 3 e) refl
-
-pub direction_nearest : {kind : ℕ} → (kind ≡ 3 → ⊥) → (p : List ℕ) → direction_in kind p ≡ Nearest
-unfolding direction_in
-direction_nearest {kind} e p = rw (ne_eqb kind 3 e) refl
 
 -- ---- by their numbers
 

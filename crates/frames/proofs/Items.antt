@@ -22,10 +22,6 @@ items_first (suc (suc (suc (suc zero)))) n = refl
 items_first (suc (suc (suc (suc (suc zero))))) n = refl
 items_first (suc (suc (suc (suc (suc (suc kind)))))) n = refl
 
-pub items_third : {kind : ℕ} → kind ≡ 3 → items_from kind ≡ 1
-unfolding kind_of
-items_third e = rw e refl
-
 pub none_later : (kind : ℕ) (payload : List ℕ) → (kind ≡ 5 → ⊥) → (kind_of kind).later payload ≡ 0
 unfolding kind_of
 none_later zero p n = refl

@@ -135,30 +135,33 @@ good_length n b e = go (ltb n 2) (ltb longest_body n) refl refl
     go false true f g = let z : ◌≡◌ {A = ℕ} 2 0 = rw (f, g) at e in absurd (omega arith)
     go false false f g = (ltb-false n 2 f, ltb-false longest_body n g)
 
--- and version 1, a payload that its kind has, and no refusal after 5
-good_parts : (n : ℕ) (b : List ℕ) → refusal_to n b ≡ 0 → (eqb (get_or b 0 0) 1 ≡ true) × (bad_payload (get_or b 1 0) (n - 2) ≡ false) × ((kind_of (get_or b 1 0)).later (drop 2 b) ≡ 0)
+-- and version 1, a kind, a payload that its kind has, and no refusal after 5
+good_parts : (n : ℕ) (b : List ℕ) → refusal_to n b ≡ 0 → (eqb (get_or b 0 0) 1 ≡ true) × (is_kind (get_or b 1 0) ≡ true) × (bad_payload (get_or b 1 0) (n - 2) ≡ false) × ((kind_of (get_or b 1 0)).later (drop 2 b) ≡ 0)
 unfolding refusal_to
 good_parts n b e =
     go (ltb n 2) (ltb longest_body n) (eqb (get_or b 0 0) 1) (is_kind (get_or b 1 0)) ((kind_of (get_or b 1 0)).own (drop 2 b)) (bad_payload (get_or b 1 0) (n - 2)) ((kind_of (get_or b 1 0)).later (drop 2 b)) e
   where
-    go : (s t v k : Bool) (m : ℕ) (p : Bool) (l : ℕ) → cond s 1 (cond t 2 (cond (not v) 3 (cond (not k) 4 (or_else m (cond p 5 l))))) ≡ 0 → (v ≡ true) × (p ≡ false) × (l ≡ 0)
+    go : (s t v k : Bool) (m : ℕ) (p : Bool) (l : ℕ) → cond s 1 (cond t 2 (cond (not v) 3 (cond (not k) 4 (or_else m (cond p 5 l))))) ≡ 0 → (v ≡ true) × (k ≡ true) × (p ≡ false) × (l ≡ 0)
     go true t v k m p l f = absurd (omega arith)
     go false true v k m p l f = absurd (omega arith)
     go false false false k m p l f = absurd (omega arith)
     go false false true false m p l f = absurd (omega arith)
     go false false true true (suc m) p l f = absurd (omega arith)
     go false false true true zero true l f = absurd (omega arith)
-    go false false true true zero false l f = (refl, refl, f)
+    go false false true true zero false l f = (refl, refl, refl, f)
 
 pub good_version : (n : ℕ) (b : List ℕ) → refusal_to n b ≡ 0 → get_or b 0 0 ≡ 1
 good_version n b e = eqb-true (get_or b 0 0) 1 (good_parts n b e).0
 
+pub good_kind : (n : ℕ) (b : List ℕ) → refusal_to n b ≡ 0 → is_kind (get_or b 1 0) ≡ true
+good_kind n b e = (good_parts n b e).1
+
 pub good_payload : (n : ℕ) (b : List ℕ) → refusal_to n b ≡ 0 → bad_payload (get_or b 1 0) (n - 2) ≡ false
-good_payload n b e = (good_parts n b e).1
+good_payload n b e = (good_parts n b e).2
 
 -- of a sheet no line is bad
 pub good_lines : (n : ℕ) (b : List ℕ) → refusal_to n b ≡ 0 → get_or b 1 0 ≡ 5 → sheet_refusal (drop 2 b) ≡ 0
-good_lines n b e k = sym (sheet_later k (drop 2 b)) ∙ (good_parts n b e).2
+good_lines n b e k = sym (sheet_later k (drop 2 b)) ∙ (good_parts n b e).3
 
 -- so its items start within it
 either : (s t : Bool) → s || t ≡ false → s ≡ false

@@ -7,7 +7,7 @@ use lib.ListN.{replicate}
 use lib.Dec.{lit<}
 use Rattle.words.specs.Bytes.{word_bytes}
 use Rattle.sheets.specs.Sheet.{line_of, sheet_refusal}
-use Rattle.sheets.specs.declared.Line.TheVariants.{Neither}
+use Rattle.std.specs.Prelude.{None}
 use Rattle.sums.specs.Sum.{sum_bits}
 use Rattle.sheet_values.specs.Values.{values_of, value_of}
 use Rattle.sheet_values.proofs.Sheets.{sheets}
@@ -35,7 +35,7 @@ unfolding sheet_refusal line_of word_bytes
 household_lines =
     (sheets.weight household refl 0 0x3ff0000000000000 (lit< tt) refl, sheets.sum household refl 3 2 2 (lit< tt) refl, sheets.sum household refl 4 3 0 (lit< tt) refl)
 
-pub household_last : line_of household 4 ≡ Neither → ⊥
+pub household_last : line_of household 4 ≡ None → ⊥
 unfolding sheet_refusal word_bytes
 household_last = sheets.forms household refl 4 (lit< tt)
 

@@ -17,14 +17,14 @@ const MOST_LINES: usize = 56;
 pub const VALUES: usize = 448;
 
 // The value of line i, which is not refused, from those of the lines before it.
+#[tactic(auto, using(sheets::proofs::Lines::names_earlier), unfolding(crate::specs::Values::value_from))]
 fn value_of(i: usize, line: Line, before: &[u64; MOST_LINES]) -> u64
-    requires { (refusal_of i line ≡ 0) × (i ≤ 56) }
-    ensures { result ≡ value_from before.now line }
+    requires { (refusal_of i (Some line) ≡ 0) × (i ≤ 56) }
+    ensures { result ≡ value_from before.now (Some line) }
 {
     match line {
         Line::Weight(x) => x,
         Line::Sum(first, second) => sums::sum(before[first as usize], before[second as usize]),
-        Line::Neither => 0,
     }
 }
 
@@ -34,15 +34,10 @@ pub fn write_values(payload: &[u8], n: usize, out: &mut [u8])
     ensures { (out.new ≡ words_of (value_of payload.now) n ++ drop (8 * n) out.old) × Words n payload.now }
 {
     let mut values = [0u64; MOST_LINES];
-    let mut i = 0;
-    let mut from = 0;
-    let mut at = 0;
-    while i < n {
-        let value = value_of(i, sheets::line_at(payload, from), &values);
+    for i in 0..n {
+        let line = sheets::line_at(payload, i * LINE_BYTES).unwrap();
+        let value = value_of(i, line, &values);
         values[i] = value;
-        words::write_u64(&mut out[at..], value);
-        i += 1;
-        from += LINE_BYTES;
-        at += 8;
+        words::write_u64(&mut out[8 * i..], value);
     }
 }

@@ -4,6 +4,7 @@ use mathlib.Core.Path.{◌≡◌, sym, ap, ◌∙◌}
 use mathlib.Core.List.{◌++◌}
 use native.Mathlib.Omega.{arith}
 use lib.ListN.{length, take, drop}
+use Rattle.frames.specs.Numbers.{kind_number}
 use Rattle.answers.specs.Answers.{results_of}
 use Rattle.answers.proofs.Results.{length_results}
 use Rattle.answers.proofs.Answers.{results_written}
@@ -13,8 +14,8 @@ pub returns : goal.returns
 returns c =
     let s = c.before.before.before.before.before.before.before.before.before.before in
     let n = s.args.n in
-    let results = results_of s.args.kind n s.args.payload.now in
-    let long : 8 * n ≡ length results = sym (length_results s.args.kind n s.args.payload.now) in
+    let results = results_of (kind_number s.args.kind) n s.args.payload.now in
+    let long : 8 * n ≡ length results = sym (length_results (kind_number s.args.kind) n s.args.payload.now) in
     let h = c.write_head in
     let a = h.new.out in
     results_written results s.args.answer.now a _ (8 * n + 2) (omega (arith, long)) h.ensures

@@ -41,7 +41,7 @@ overflow_sub-n c =
     (good_length c.args.n c.args.body.now c.requires.1).0
 
 pub item_count-count-requires : goal.item_count-count-requires
-item_count-count-requires c = at_front _ _ (λ e. omega arith)
+item_count-count-requires c = at_front 5 _ (λ e. omega arith)
 
 pub write_values-requires : goal.write_values-requires
 write_values-requires c =

@@ -1,6 +1,6 @@
 -- `sheet_values::write_values` meets its contract: the values so far stand in the array, and at the front of the buffer. Assumes
 -- nothing.
-use Prim.Native.Nat.{◌*◌, ◌-◌, ◌≤◌}
+use Prim.Native.Nat.{◌*◌}
 use mathlib.Core.Path.{◌≡◌}
 use mathlib.Core.List.{◌++◌}
 use lib.ListN.{length, take, drop}
@@ -10,8 +10,9 @@ use Rattle.sheet_values.specs.Lines.{Words}
 use Rattle.sheet_values.proofs.write_values.Given as goal
 
 abbrev pub invariant-loop-i : goal.invariant-loop-i
-invariant-loop-i l =
-    (l.i ≤ l.n) × (l.from ≡ l.i * 9) × (l.at ≡ 8 * l.i) × (length l.values ≡ 56) × (take l.i l.values ≡ values_of l.payload l.i) × (l.out ≡ words_of (value_of l.payload) l.i ++ drop (8 * l.i) l.initial.out) × Words l.i l.payload
-
-abbrev pub decreases-loop-i : goal.decreases-loop-i
-decreases-loop-i l = l.n - l.i
+invariant-loop-i l = record {
+  size : length l.values ≡ 56;
+  kept : take l.i l.values ≡ values_of l.payload l.i;
+  written : l.out ≡ words_of (value_of l.payload) l.i ++ drop (8 * l.i) l.initial.out;
+  small : Words l.i l.payload;
+}
