@@ -1,45 +1,24 @@
 -- From an operation on patterns to the same on floats. A float that fits is read back from its own pattern. Assumes nothing.
-use mathlib.Core.Path.{◌≡◌, refl, sym, ap, ap₂, ◌∙◌, subst}
-use Prim.Native.Nat.{ℕ, ◌*◌, ◌%◌, ◌≤◌, ◌<◌}
-use mathlib.Core.Bool.{Bool, true, false, not, ◌&&◌, ◌||◌, beq, true≢false}
-use lib.Dec.{T, eqb}
-use borrow.Author.Tests.{eq-eqb}
-use lib.Ieee.{Float, nan, inf, fin, binary64, up, down, ne, is_nan, fits, div, nan_bits, of_bits, to_bits}
+use mathlib.Core.Path.{◌≡◌, refl, sym, ap, ◌∙◌, subst}
+use Prim.Native.Nat.{ℕ, ◌%◌, ◌≤◌, ◌<◌}
+use mathlib.Core.Bool.{Bool, true, not, true≢false}
+use lib.Dec.{T}
+use lib.Ieee.{Float, nan, inf, fin, binary64, is_nan, fits, nan_bits, of_bits, to_bits}
 use lib.Ieee.Bits.{of_bits-to_bits}
 use Rattle.rounding.specs.declared.Direction.{Direction}
 use Rattle.rounding.specs.declared.Direction.TheVariants.{Nearest, Down}
 use Rattle.ieee754.specs.Operations.{fused_multiply_add, round_to_integral, fused_bits, round_bits, floor_bits}
 use Rattle.ieee754.proofs.Nans.{nan_pattern, number_pattern, nan_read, same_floats}
 
--- ---- x != x says that x is a NaN
-
-number : (x : Float) → T (not (is_nan x)) → ne x x ≡ false
-unfolding ne is_nan
-number nan t = absurd t
-number (inf true) t = refl
-number (inf false) t = refl
-number (fin s m e) t = ap₂ (λ (a b : Bool). not (a && (b || eqb (m * up e * down e) 0))) (eq-eqb (m * up e * down e) (m * up e * down e) refl) (same s)
-  where
-    same : (s : Bool) → beq s s ≡ true
-    same true = refl
-    same false = refl
-
-pub no_nan : (x : Float) → ne x x ≡ false → T (not (is_nan x))
-unfolding ne is_nan
-no_nan nan e = absurd (true≢false e)
-no_nan (inf s) e = tt
-no_nan (fin s m e) h = tt
-
-pub a_nan : (x : Float) → ne x x ≡ true → 0x7ff8000000000000 ≡ to_bits binary64 x
-unfolding is_nan to_bits
-a_nan nan e = refl
-a_nan (inf s) e = absurd (true≢false (sym e ∙ number (inf s) tt))
-a_nan (fin s m x) e = absurd (true≢false (sym e ∙ number (fin s m x) tt))
-
 -- ---- the patterns of NaNs
 
-pub pattern_nan : (b : ℕ) → 0x7ff0000000000000 < b % 0x8000000000000000 → div binary64 (of_bits binary64 0) (of_bits binary64 0) ≡ of_bits binary64 b
-unfolding div of_bits
+pub a_nan : (x : Float) → is_nan x ≡ true → 0x7ff8000000000000 ≡ to_bits binary64 x
+unfolding is_nan to_bits
+a_nan nan e = refl
+a_nan (inf s) e = absurd (true≢false (sym e))
+a_nan (fin s m x) e = absurd (true≢false (sym e))
+
+pub pattern_nan : (b : ℕ) → 0x7ff0000000000000 < b % 0x8000000000000000 → nan ≡ of_bits binary64 b
 pattern_nan b h = sym (nan_read b (nan_pattern b h))
 
 pub pattern_number : (b : ℕ) → b % 0x8000000000000000 ≤ 0x7ff0000000000000 → T (not (nan_bits binary64 b))

@@ -15,7 +15,7 @@ use rounding::{INFINITY, SIGN};
 pub fn to_bits(x: f64) -> u64
     ensures { result ≡ to_bits binary64 x }
 {
-    if x != x { NAN } else { f64::to_bits(x) }
+    if x.is_nan() { NAN } else { f64::to_bits(x) }
 }
 
 // The float of a pattern.
@@ -23,7 +23,7 @@ pub fn from_bits(b: u64) -> f64
     ensures { result ≡ of_bits binary64 b }
 {
     if INFINITY < b % SIGN {
-        0.0 / 0.0
+        f64::NAN
     } else {
         f64::from_bits(b)
     }
@@ -62,14 +62,11 @@ pub fn roundeven(x: f64) -> f64
 {
     // For |x| <= 2^50 the sum is rounded to a whole number. A zero would come back without the sign of x.
     let r = x + SHIFT - SHIFT;
-    if MINUS_TWO_50 <= x {
-        if x <= TWO_50 {
-            if r != 0.0 {
-                return r;
-            }
-        }
+    if MINUS_TWO_50 <= x && x <= TWO_50 && r != 0.0 {
+        r
+    } else {
+        from_bits(integral::round(to_bits(x)))
     }
-    from_bits(integral::round(to_bits(x)))
 }
 
 // The greatest whole number not above x.

@@ -1,9 +1,7 @@
 -- `math::to_bits` meets its contract. Assumes nothing.
-use Rattle.math.proofs.Floats.{no_nan, a_nan}
+use mathlib.Core.Path.{sym, ◌∙◌}
+use Rattle.math.proofs.Floats.{a_nan}
 use Rattle.math.proofs.to_bits.Goals as goal
 
-pub float_to_bits-result : goal.float_to_bits-result
-float_to_bits-result c = no_nan c.args.x c.if-x.false
-
-pub returns-then-x : goal.returns-then-x
-returns-then-x c = a_nan c.args.x c.if-x.true
+pub returns-then-is_nan : goal.returns-then-is_nan
+returns-then-is_nan c = a_nan c.args.x (sym c.is_nan.ensures.value ∙ c.if-is_nan.true)
