@@ -19,7 +19,8 @@ use Rattle.rounding.specs.Machine.{Stands, RoundsWord}
 use Rattle.operands.specs.declared.parts.Parts.{Parts}
 use Rattle.ieee754.specs.Operations.{sum_to}
 use Rattle.operands.specs.Machine.{Summands, product_size, addend_size}
-use Rattle.multiply_add.proofs.Sums.{sum_like, sum_more, sum_comm, beq_true, beq_false, add_stands, sub_stands, sub_order}
+use Rattle.operands.proofs.Signs.{beq_true, beq_false}
+use Rattle.multiply_add.proofs.Sums.{sum_like, sum_more, sum_comm, add_stands, sub_stands, sub_order}
 use Rattle.multiply_add.proofs.Products.{product_ready}
 
 -- ---- the high word, shifted down by k more; from 63 on all that is left is the sticky bit

@@ -1,5 +1,5 @@
 -- What the functions of this crate say of each other. Nothing here is part of what an operation means. Definitions only.
-use Rattle.std.specs.Prelude.{◌≡◌, ◌≢◌, ◌⊎◌, ℕ, ◌+◌, ◌≤◌, ◌<◌, Bool}
+use Rattle.std.specs.Prelude.{ℕ, ◌+◌, ◌≤◌, ◌<◌}
 use Rattle.operands.specs.declared.parts.Parts.{Parts}
 use Rattle.operands.specs.Machine.{Middle}
 
@@ -26,8 +26,3 @@ pub record Small (x y z : ℕ) : Type 0 where
 pub record SmallParts (x y z : Parts) : Type 0 where
   pub middle : (651 ≤ z.e) × (z.e < 1551)
   pub over : x.e + y.e ≤ z.e + 1053
-
--- w with the sign neg is p with the sign s and q with the sign t, added
-pub record SumOf (s t : Bool) (p q : ℕ) (neg : Bool) (w : ℕ) : Type 0 where
-  pub like : s ≡ t → (neg ≡ s) × (w ≡ p + q)
-  pub unlike : s ≢ t → ((neg ≡ s) × (p ≡ q + w)) ⊎ ((neg ≡ t) × (q ≡ p + w))

@@ -9,10 +9,10 @@ ghost use Rattle.std.specs.Float.{binary64};
 ghost use Rattle.wide.specs.Words.{value, jammed};
 ghost use Rattle.rounding.specs.declared.Direction.TheVariants.{Nearest};
 ghost use Rattle.ieee754.specs.Operations.{sum_to, fused_bits};
-ghost use Rattle.operands.specs.Machine.{field_of, Reads, Summands, RoundsSum, fused_floats};
-ghost use Rattle.fast_fused.specs.Machine.{Near, NearParts, Small, SmallParts, SumOf};
+ghost use Rattle.operands.specs.Machine.{field_of, Reads, Summands, SumOf, RoundsSum, fused_floats};
+ghost use Rattle.fast_fused.specs.Machine.{Near, NearParts, Small, SmallParts};
 
-use operands::{Parts, field, is_middle, negative, unlike_signs};
+use operands::{Parts, Signed, field, is_middle, negative, unlike_signs};
 use rounding::{Direction, LEADING, Rounding, SIGN};
 use wide::Wide;
 
@@ -57,46 +57,31 @@ fn shift_left(m: u64, k: u64) -> Wide
     }
 }
 
-// A number with a sign.
-#[derive(Clone, Copy)]
-pub struct Signed {
-    pub neg: bool,
-    pub size: Wide,
-}
-
-// ±p ±q. The sum and both differences are made, and one of them is picked.
-fn add_signed(s: bool, p: Wide, t: bool, q: Wide) -> Signed
-    requires { (value p < 2 ^ 127) × (value q < 2 ^ 127) }
-    ensures { SumOf s t (value p) (value q) result.neg (value result.size) }
-{
-    let sum = wide::add(p, q);
-    let down = wide::sub(p, q);
-    let up = wide::sub(Wide { hi: 0, lo: 0 }, down);
-    let under = SIGN <= down.hi;
-    let rest = wide::pick(under, up, down);
-    Signed {
-        neg: wide::pick(s == t, s, wide::pick(under, t, s)),
-        size: wide::pick(s == t, sum, rest),
-    }
-}
-
 // ±x * y ±z, in units of half of the product's last digit.
 fn exact_sum(s: bool, x: Parts, y: Parts, t: bool, z: Parts) -> Signed
     requires { NearParts x y z }
     ensures { SumOf s t (x.m * 2 * y.m) (z.m * 2 ^ (z.e + 1127 - (x.e + y.e))) result.neg (value result.size) }
 {
-    let p = wide::multiply(x.m * 2, y.m);
-    add_signed(s, p, t, shift_left(z.m, z.e + 1127 - (x.e + y.e)))
+    let p = Signed {
+        neg: s,
+        size: wide::multiply(x.m * 2, y.m),
+    };
+    let q = Signed {
+        neg: t,
+        size: shift_left(z.m, z.e + 1127 - (x.e + y.e)),
+    };
+    operands::add_signed(p, q)
 }
 
-fn round_exact(neg: bool, w: Wide, e: u64) -> u64
+fn round_exact(sum: Signed, e: u64) -> u64
     requires { (1251 ≤ e) × (e ≤ 3168) }
-    ensures { RoundsSum Nearest neg (value w) e result }
+    ensures { RoundsSum Nearest sum.neg (value sum.size) e result }
 {
     let nearest = Rounding {
         dir: Direction::Nearest,
-        neg,
+        neg: sum.neg,
     };
+    let w = sum.size;
     let hi = w.hi;
     let lo = w.lo;
     if hi != 0 {
@@ -116,7 +101,7 @@ fn fused_near(a: u64, b: u64, c: u64) -> u64
     let y = read_normal(b);
     let z = read_normal(c);
     let sum = exact_sum(unlike_signs(a, b), x, y, negative(c), z);
-    round_exact(sum.neg, sum.size, x.e + y.e + 20)
+    round_exact(sum, x.e + y.e + 20)
 }
 
 // ---- a product that is small beside c

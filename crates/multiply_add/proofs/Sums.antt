@@ -1,18 +1,17 @@
 -- The exact sum of two numbers of which one may end in a sticky bit, as `sum_to` has it; and how two numbers are brought to one exponent so
 -- that a sticky bit does no harm: a shift of at most 21 digits is exact, and from 22 on nothing cancels. Assumes nothing.
 use mathlib.Core.Path.{◌≡◌, refl, sym, ap, ap₂, ◌∙◌, subst}
-use mathlib.Core.Logic.{◌⊎◌, inl, inr, ⊎_elim}
-use Prim.Native.Nat.{ℕ, suc, ◌+◌, ◌-◌, ◌*◌, ◌/◌, ◌%◌, ◌^◌, ◌≤◌, ◌<◌}
-use native.Mathlib.Nat.{le_refl, le_trans, le_of_eq, le_of_lt, lt_of_lt_of_le, lt_of_le_of_lt, le_antisymm, mod-eq_of_lt, add_comm, add-zero, mul-one, mul_assoc, add-mul, mul-le-mul_left, mul-le-mul_right, suc-mul, sub-le, mul-lt-mul_of_pos_right, lt_of_mul-lt-mul_right, eq_of_mul-eq-mul_right, add-le-add, add-mod_left, div-add-mod'}
+use mathlib.Core.Logic.{◌≢◌, ◌⊎◌, inl, inr, ⊎_elim}
+use Prim.Native.Nat.{ℕ, ◌+◌, ◌-◌, ◌*◌, ◌/◌, ◌%◌, ◌^◌, ◌≤◌, ◌<◌}
+use native.Mathlib.Nat.{le_refl, le_trans, le_of_eq, le_of_lt, lt_of_lt_of_le, lt_of_le_of_lt, le_antisymm, add_comm, add-zero, mul-one, mul_assoc, add-mul, mul-le-mul_left, mul-lt-mul_of_pos_right, lt_of_mul-lt-mul_right, eq_of_mul-eq-mul_right, add-le-add, div-add-mod'}
 use native.Mathlib.Omega.{arith}
-use mathlib.Core.Bool.{Bool, true, false, cond, beq, true≢false}
-use lib.Arith.{digits_lt}
+use mathlib.Core.Bool.{Bool, true, false, cond, true≢false}
 use lib.IntN.{pos}
-use lib.Dec.{ltb, leb, lit≤}
+use lib.Dec.{ltb, lit≤}
 use lib.Pow.{pow-add, pow_pos, pow_mono}
-use borrow.Author.Tests.{lt-ltb, le-ltb, ltb-true, ltb-false, le-leb, lt-leb}
+use borrow.Author.Tests.{lt-ltb, le-ltb, ltb-true, ltb-false}
 use lib.Ieee.{fin, binary64, to_bits}
-use Rattle.wide.specs.declared.Wide.{Wide}
+use Rattle.operands.specs.declared.Signed.{Signed}
 use Rattle.wide.specs.Words.{value, jammed}
 use Rattle.wide.proofs.Nat.{le_or_gt, sub_mul}
 use Rattle.wide.proofs.Sticky.{Jam, jam_of, jam_is, jam_add, jam_sub, jam_lt, jam_below, jam_scale, jam_exact}
@@ -20,29 +19,11 @@ use Rattle.rounding.specs.declared.Direction.{Direction}
 use Rattle.rounding.specs.Rounding.{round_to}
 use Rattle.rounding.specs.Machine.{sign_bit, Stands, Rounds}
 use Rattle.ieee754.specs.Operations.{sum_to, zero_sign}
-use Rattle.operands.specs.Machine.{Summands, Addends, Ready, RoundsSum}
+use Rattle.operands.specs.Machine.{Summands, Addends, Ready, SumOf, RoundsSum}
 use Rattle.operands.proofs.Reading.{zero_bits, stands_just}
+use Rattle.operands.proofs.Signs.{beq_same, beq_other}
 
 -- ---- `sum_to` by its cases
-
-pub beq_same : (s : Bool) → beq s s ≡ true
-beq_same true = refl
-beq_same false = refl
-
-pub beq_other : (s t : Bool) → (s ≡ t → ⊥) → beq s t ≡ false
-beq_other true true h = absurd (h refl)
-beq_other true false h = refl
-beq_other false true h = refl
-beq_other false false h = absurd (h refl)
-
-pub beq_true : (s t : Bool) → beq s t ≡ true → s ≡ t
-beq_true true true e = refl
-beq_true true false e = sym e
-beq_true false true e = e
-beq_true false false e = refl
-
-pub beq_false : (s t : Bool) → beq s t ≡ false → s ≡ t → ⊥
-beq_false s t e q = true≢false (sym (beq_same t) ∙ ap (λ (x : Bool). beq x t) (sym q) ∙ e)
 
 pub sum_like : (d : Direction) (s : Bool) (A B c : ℕ) → sum_to d s A s B c ≡ round_to d binary64 s (A + B) c
 unfolding sum_to
@@ -171,93 +152,33 @@ module _ {A B c x y e : ℕ} (h : Addends A B c x y e) where
     pub same_answer : (s ≡ t → ⊥) → x ≡ y → r ≡ sign_bit (zero_sign d) → r ≡ to_bits binary64 (sum_to d s A t B c)
     same_answer n l q = q ∙ zero_bits (zero_sign d) ∙ ap (to_bits binary64) (sym (sum_same d s t A B c n (even_order l)))
 
--- ---- the sum or a difference, picked by the signs and the order
+    -- the rounding of what the signs make of the two
+    pub sum_answer : (neg : Bool) (w : ℕ) → 0 < x + y → SumOf s t x y neg w → RoundsSum d neg w e r → r ≡ to_bits binary64 (sum_to d s A t B c)
+    sum_answer neg w o h f = ⊎_elim
+        (λ (e : s ≡ t). let g = h.like e in add_answer e (rounds g.0 g.1 (f.1 (subst (λ (n : ℕ). 0 < n) (sym g.1) o))))
+        (λ (n : s ≢ t). rest n (h.unlike n) (le_or_gt w 0))
+        (differ s t)
+      where
+        none : (w : ℕ) → w ≤ 0 → w ≡ 0
+        none w h = omega arith
 
--- modulo 2 ^ 128
-pub add_fits : (x y w : ℕ) → x + y < 2 ^ 128 → w ≡ (x + y) % 2 ^ 128 → w ≡ x + y
-add_fits x y w h e = e ∙ mod-eq_of_lt h
+        level : (x y w : ℕ) → w ≤ 0 → y ≡ x + w → x ≡ y
+        level x y w h e = omega arith
 
-pub sub_fits : (x y w : ℕ) → w < 2 ^ 128 → x < 2 ^ 128 → (w + y) % 2 ^ 128 ≡ x → y ≤ x → w ≡ x - y
-sub_fits x y w W X e h = go (2 ^ 128) W X e
-  where
-    back : (w y x : ℕ) → w + y ≡ x → w ≡ x - y
-    back w y x e = omega arith
+        more : (x y w : ℕ) → 0 < w → y ≡ x + w → x < y
+        more x y w h e = omega arith
 
-    over : (w y x N : ℕ) → w < N → x < N → y ≤ x → w + y < N + N
-    over w y x N a b c = omega arith
+        gap : (x y w : ℕ) → y ≡ x + w → w ≡ y - x
+        gap x y w e = omega arith
 
-    carry : (w y x N : ℕ) → w < N → y ≤ x → x < N → w + y - N ≡ x → N ≤ w + y → ⊥
-    carry w y x N a b c d f = omega arith
+        rounds : {v : Bool} {n : ℕ} → neg ≡ v → w ≡ n → Rounds d neg w e r → Rounds d v n e r
+        rounds {v} {n} p q a = subst (λ (b : Bool). Rounds d b n e r) p (subst (λ (m : ℕ). Rounds d neg m e r) q a)
 
-    rest : (w y x N : ℕ) → w < N → x < N → y ≤ x → w + y - N < N
-    rest w y x N a b c = omega arith
-
-    split : (n N : ℕ) → N ≤ n → n ≡ N + (n - N)
-    split n N h = omega arith
-
-    go : (N : ℕ) → w < N → x < N → (w + y) % N ≡ x → w ≡ x - y
-    go N W X e = ⊎_elim
-        (λ (l : N ≤ w + y). absurd (carry w y x N W h X (sym (ap (λ (z : ℕ). z % N) (split (w + y) N l) ∙ add-mod_left N (w + y - N) ∙ mod-eq_of_lt (rest w y x N W X h)) ∙ e) l))
-        (λ (l : w + y < N). back w y x (sym (mod-eq_of_lt l) ∙ e))
-        (le_or_gt N (w + y))
-
--- the highest bit of x - y modulo 2 ^ 128, where both are below 2 ^ 127
-high_below : (h l b k x : ℕ) → h * b + l ≤ x → x < k * b → h < k
-high_below h l b k x p q = lt_of_mul-lt-mul_right b (omega arith)
-
-high_above : (h l b k y x : ℕ) → l < b → y < k * b → x < y → (h * b + l + y) % (k * b + k * b) ≡ x → k ≤ h
-high_above h l b k y x L Y X e = told (le_or_gt k h)
-  where
-    told : (k ≤ h) ⊎ (h < k) → k ≤ h
-    told (inl p) = p
-    told (inr p) =
-        let m : suc h * b ≤ k * b = mul-le-mul_right b p in
-        let n = suc-mul h b in
-        let f : h * b + l + y < k * b + k * b = omega arith in
-        absurd (omega (arith, sym (mod-eq_of_lt f) ∙ e))
-
-pub sub_sign : (x y h l : ℕ) → x < 2 ^ 127 → y < 2 ^ 127 → h < 2 ^ 64 → l < 2 ^ 64 → (h * 2 ^ 64 + l + y) % 2 ^ 128 ≡ x → leb (2 ^ 63) h ≡ ltb x y
-sub_sign x y h l X Y H L e = told (ltb x y) refl
-  where
-    told : (b : Bool) → ltb x y ≡ b → leb (2 ^ 63) h ≡ b
-    told true f = le-leb (2 ^ 63) h (high_above h l (2 ^ 64) (2 ^ 63) y x L Y (ltb-true x y f) e)
-    told false f =
-        let v = sub_fits x y (h * 2 ^ 64 + l) (digits_lt H L) (lt_of_lt_of_le X (pow_mono {i = 127} {j = 128} (omega arith))) e (ltb-false x y f) in
-        lt-leb (2 ^ 63) h (high_below h l (2 ^ 64) (2 ^ 63) (x - y) (le_of_eq v) (lt_of_le_of_lt (sub-le x y) X))
-
-module _ (d : Direction) (s t : Bool) {A B c x y e : ℕ} (S U D : Wide) (hS : value S ≡ x + y) (hU : x ≤ y → value U ≡ y - x) (hD : y ≤ x → value D ≡ x - y) (h : Addends A B c x y e) (r : ℕ) where
-  pub picked_answer : (same under : Bool) → same ≡ beq s t → under ≡ ltb x y → 0 < x → RoundsSum d (cond under t s) (value (cond same S (cond under U D))) e r → r ≡ to_bits binary64 (sum_to d s A t B c)
-  picked_answer true under p u X f = add_answer h d s t r l (subst (λ (w : ℕ). Rounds d s w e r) hS (subst (λ (z : Bool). Rounds d z (value S) e r) (sign under) (f.1 (some x y (value S) X hS))))
-    where
-      l : s ≡ t
-      l = beq_true s t (sym p)
-
-      sign : (b : Bool) → cond b t s ≡ s
-      sign true = sym l
-      sign false = refl
-
-      some : (x y w : ℕ) → 0 < x → w ≡ x + y → 0 < w
-      some x y w a b = omega arith
-  picked_answer false true p u X f =
-      let l : x < y = ltb-true x y (sym u) in
-      let q = hU (le_of_lt l) in
-      over_answer h d s t r (beq_false s t (sym p)) l (subst (λ (w : ℕ). Rounds d t w e r) q (f.1 (some x y (value U) l q)))
-    where
-      some : (x y w : ℕ) → x < y → w ≡ y - x → 0 < w
-      some x y w a b = omega arith
-  picked_answer false false p u X f =
-      let l : y ≤ x = ltb-false x y (sym u) in
-      let q = hD l in
-      ⊎_elim
-      (λ (g : x ≤ y). let k = le_antisymm g l in same_answer h d s t r (beq_false s t (sym p)) k (f.0 (none x y (value D) k q)))
-      (λ (g : y < x). sub_answer h d s t r (beq_false s t (sym p)) g (subst (λ (w : ℕ). Rounds d s w e r) q (f.1 (some x y (value D) g q))))
-      (le_or_gt x y)
-    where
-      none : (x y w : ℕ) → x ≡ y → w ≡ x - y → w ≡ 0
-      none x y w a b = omega arith
-
-      some : (x y w : ℕ) → y < x → w ≡ x - y → 0 < w
-      some x y w a b = omega arith
+        rest : s ≢ t → ((neg ≡ s) × (x ≡ y + w)) ⊎ ((neg ≡ t) × (y ≡ x + w)) → (w ≤ 0) ⊎ (0 < w) → r ≡ to_bits binary64 (sum_to d s A t B c)
+        rest n (inl a) (inl l) = same_answer n (sym (level y x w l a.1)) (f.0 (none w l))
+        rest n (inl a) (inr l) = sub_answer n (more y x w l a.1) (rounds a.0 (gap y x w a.1) (f.1 l))
+        rest n (inr a) (inl l) = same_answer n (level x y w l a.1) (f.0 (none w l))
+        rest n (inr a) (inr l) = over_answer n (more x y w l a.1) (rounds a.0 (gap x y w a.1) (f.1 l))
 
 -- ---- two numbers, brought to one exponent
 
@@ -311,8 +232,8 @@ aligned A B c x xe y ye z X Y l ez C p q =
         more t h = omega arith
 
 -- what `align` picks: the one of the larger exponent, and the other
-module _ (p q : Wide) (pe qe : ℕ) where
-  pub ready_pick : (b : Bool) → Ready (value p) → Ready (value q) → Ready (value (cond b q p))
+module _ (p q : Signed) (pe qe : ℕ) where
+  pub ready_pick : (b : Bool) → Ready (value p.size) → Ready (value q.size) → Ready (value (cond b q p).size)
   ready_pick true P Q = Q
   ready_pick false P Q = P
 
@@ -320,8 +241,8 @@ module _ (p q : Wide) (pe qe : ℕ) where
   exponent_pick true e = le_of_lt (ltb-true pe qe (sym e))
   exponent_pick false e = ltb-false pe qe (sym e)
 
-  pub align_answer : (d : Direction) (s t b : Bool) (z r A B c : ℕ) → b ≡ ltb pe qe → Ready (value p) → Ready (value q) → z ≡ jammed (value (cond b p q)) (2 ^ (cond b qe pe - cond b pe qe)) → 0 < c → A * 2 ^ 2273 ≡ value p * 2 ^ pe * c → B * 2 ^ 2273 ≡ value q * 2 ^ qe * c
-      → ((X Y c : ℕ) → Addends X Y c (value (cond b q p)) z (cond b qe pe) → r ≡ to_bits binary64 (sum_to d (cond b t s) X (cond b s t) Y c))
-      → r ≡ to_bits binary64 (sum_to d s A t B c)
-  align_answer d s t true z r A B c e P Q ez C a b f = f B A c (aligned B A c (value q) qe (value p) pe z Q P (exponent_pick true e) ez C b a) ∙ ap (to_bits binary64) (sum_comm d t s B A c)
-  align_answer d s t false z r A B c e P Q ez C a b f = f A B c (aligned A B c (value p) pe (value q) qe z P Q (exponent_pick false e) ez C a b)
+  pub align_answer : (d : Direction) (b : Bool) (z r A B c : ℕ) → b ≡ ltb pe qe → Ready (value p.size) → Ready (value q.size) → z ≡ jammed (value (cond b p q).size) (2 ^ (cond b qe pe - cond b pe qe)) → 0 < c → A * 2 ^ 2273 ≡ value p.size * 2 ^ pe * c → B * 2 ^ 2273 ≡ value q.size * 2 ^ qe * c
+      → ((X Y c : ℕ) → Addends X Y c (value (cond b q p).size) z (cond b qe pe) → r ≡ to_bits binary64 (sum_to d (cond b q p).neg X (cond b p q).neg Y c))
+      → r ≡ to_bits binary64 (sum_to d p.neg A q.neg B c)
+  align_answer d true z r A B c e P Q ez C a b f = f B A c (aligned B A c (value q.size) qe (value p.size) pe z Q P (exponent_pick true e) ez C b a) ∙ ap (to_bits binary64) (sum_comm d q.neg p.neg B A c)
+  align_answer d false z r A B c e P Q ez C a b f = f A B c (aligned A B c (value p.size) pe (value q.size) qe z P Q (exponent_pick false e) ez C a b)

@@ -17,9 +17,9 @@ ghost use Rattle.rounding.specs.Named.{refusal_of};
 ghost use Rattle.rounding.specs.Rounding.{round_to};
 ghost use Rattle.ieee754.specs.Operations.{zero_sign, sum_to, plus, exactly, infinite, fused_bits};
 ghost use Rattle.multiply_add.specs.Fused.{fused_reply};
-ghost use Rattle.operands.specs.Machine.{magnitude, Regular, Ready, product_size, addend_size, Addends, RoundsSum, fused_floats};
+ghost use Rattle.operands.specs.Machine.{magnitude, Regular, Ready, product_size, addend_size, RoundsSum, fused_floats};
 
-use operands::{NAN, Parts, is_regular, negative, quiet, read, unlike_signs};
+use operands::{NAN, Parts, Signed, is_regular, negative, quiet, read, unlike_signs};
 use rounding::{Direction, INFINITY, Rounding, SIGN, UnknownDirection, sign_bit};
 use wide::Wide;
 
@@ -56,43 +56,23 @@ fn round_usual(r: Rounding, w: Wide, e: u64) -> u64
     r.round_normal(w, e)
 }
 
-// ±x ±y at the exponent e, rounded and packed. The sum and both differences are made, and one of them is picked: the
-// signs and the order of random operands would be mispredicted as branches. x - y has the highest bit where x is under y.
-fn add_signed(dir: Direction, s: bool, x: Wide, t: bool, y: Wide, e: u64) -> u64
-    requires { (e ≤ 4194) × (0 < value x) × (value x < 2 ^ 127) × (value y < 2 ^ 127) }
-    ensures { (A B c : ℕ) → Addends A B c (value x) (value y) e → result ≡ to_bits binary64 (sum_to dir s A t B c) }
-{
-    let sum = wide::add(x, y);
-    let up = wide::sub(y, x);
-    let down = wide::sub(x, y);
-    let under = SIGN <= down.hi;
-    let w = wide::pick(s == t, sum, wide::pick(under, up, down));
-    let r = Rounding {
-        dir,
-        neg: wide::pick(under, t, s),
-    };
-    round_usual(r, w, e)
-}
-
 // ±p * 2^pe ±q * 2^qe, rounded and packed.
-fn align(dir: Direction, s: bool, p: Wide, pe: u64, t: bool, q: Wide, qe: u64) -> u64
-    requires { Ready (value p) × Ready (value q) × (pe ≤ 4194) × (qe ≤ 4194) }
-    ensures { (A B c : ℕ) → 0 < c → A * 2 ^ 2273 ≡ value p * 2 ^ pe * c → B * 2 ^ 2273 ≡ value q * 2 ^ qe * c → result ≡ to_bits binary64 (sum_to dir s A t B c) }
+fn align(dir: Direction, p: Signed, pe: u64, q: Signed, qe: u64) -> u64
+    requires { Ready (value p.size) × Ready (value q.size) × (pe ≤ 4194) × (qe ≤ 4194) }
+    ensures { (A B c : ℕ) → 0 < c → A * 2 ^ 2273 ≡ value p.size * 2 ^ pe * c → B * 2 ^ 2273 ≡ value q.size * 2 ^ qe * c → result ≡ to_bits binary64 (sum_to dir p.neg A q.neg B c) }
 {
     let swap = pe < qe;
     let x = wide::pick(swap, q, p);
     let y = wide::pick(swap, p, q);
     let xe = wide::pick(swap, qe, pe);
     let ye = wide::pick(swap, pe, qe);
-    let shifted = wide::shift_right_jam(y, xe - ye);
-    add_signed(
-        dir,
-        wide::pick(swap, t, s),
-        x,
-        wide::pick(swap, s, t),
-        shifted,
-        xe,
-    )
+    let shifted = Signed {
+        neg: y.neg,
+        size: wide::shift_right_jam(y.size, xe - ye),
+    };
+    let sum = operands::add_signed(x, shifted);
+    let r = Rounding { dir, neg: sum.neg };
+    round_usual(r, sum.size, xe)
 }
 
 // The product of two significands, with 21 zeros below it.
@@ -106,12 +86,18 @@ fn product(a: Parts, b: Parts) -> Wide
 fn fused_parts(dir: Direction, s: bool, a: Parts, b: Parts, t: bool, c: Parts) -> u64
     ensures { (A B d : ℕ) → 0 < d → A * 2 ^ 2273 ≡ product_size a b * d → B * 2 ^ 2273 ≡ addend_size c * d → result ≡ to_bits binary64 (sum_to dir s A t B d) }
 {
-    let p = product(a, b);
-    let q = Wide {
-        hi: c.m * 1024,
-        lo: 0,
+    let p = Signed {
+        neg: s,
+        size: product(a, b),
     };
-    align(dir, s, p, a.e + b.e, t, q, c.e + 1073)
+    let q = Signed {
+        neg: t,
+        size: Wide {
+            hi: c.m * 1024,
+            lo: 0,
+        },
+    };
+    align(dir, p, a.e + b.e, q, c.e + 1073)
 }
 
 fn fused_nonzero(dir: Direction, a: u64, b: u64, c: u64) -> u64

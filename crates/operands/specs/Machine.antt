@@ -1,6 +1,6 @@
 -- What the functions of this crate, and of the crates that compute the operations, say of each other. Nothing here is part of what an
 -- operation means. Definitions only.
-use Rattle.std.specs.Prelude.{◌≡◌, ◌⊎◌, ℕ, ◌+◌, ◌-◌, ◌*◌, ◌/◌, ◌%◌, ◌^◌, ◌≤◌, ◌<◌, Bool, cond, ℤ, pos, negsuc, leb, ltb}
+use Rattle.std.specs.Prelude.{◌≡◌, ◌≢◌, ◌⊎◌, ℕ, ◌+◌, ◌-◌, ◌*◌, ◌/◌, ◌%◌, ◌^◌, ◌≤◌, ◌<◌, Bool, cond, ℤ, pos, negsuc, leb, ltb}
 use Rattle.std.specs.Float.Ieee.{of_bits, to_bits}
 use Rattle.std.specs.Float.{binary64}
 use Rattle.std.specs.Float.Ieee.Exact.{HasValue}
@@ -63,6 +63,11 @@ pub record Summands (A B c x y e : ℕ) : Type 0 where
 pub record Addends (A B c x y e : ℕ) : Type 0 where
   pub both : Summands A B c x y e
   pub far : (B * 2 ^ 2273 ≡ y * 2 ^ e * c) ⊎ (y + 2 ^ 64 ≤ x)
+
+-- w with the sign neg is x with the sign s and y with the sign t, added
+pub record SumOf (s t : Bool) (x y : ℕ) (neg : Bool) (w : ℕ) : Type 0 where
+  pub like : s ≡ t → (neg ≡ s) × (w ≡ x + y)
+  pub unlike : s ≢ t → ((neg ≡ s) × (x ≡ y + w)) ⊎ ((neg ≡ t) × (y ≡ x + w))
 
 -- r is the pattern of what w stands for, rounded, where 0 is an exact zero sum of unlike signs
 abbrev pub RoundsSum : Direction → Bool → ℕ → ℕ → ℕ → Type 0

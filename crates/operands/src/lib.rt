@@ -6,11 +6,13 @@ mod parts;
 
 ghost use Rattle.std.specs.Prelude.{◌≡◌, ◌↔◌, IsTrue, ◌*◌, ◌^◌, ◌<◌};
 ghost use Rattle.std.specs.Float.Ieee.{unlike};
+ghost use Rattle.wide.specs.Words.{value};
 ghost use Rattle.ieee754.specs.Operations.{quiet};
-ghost use Rattle.operands.specs.Machine.{sign_of, field_of, Middle, Regular, Reads};
+ghost use Rattle.operands.specs.Machine.{sign_of, field_of, Middle, Regular, Reads, SumOf};
 
 pub use parts::Parts;
 use rounding::{INFINITY, LEADING, SIGN};
+use wide::Wide;
 
 // The pattern of a NaN result where no operand is a NaN.
 pub const NAN: u64 = 0x7ff8000000000000;
@@ -88,5 +90,29 @@ pub fn read(b: u64) -> Parts
     Parts {
         m: LEADING + fraction,
         e: field + 51,
+    }
+}
+
+// A size in two words, and the sign of the number that has it.
+#[derive(Clone, Copy)]
+pub struct Signed {
+    pub neg: bool,
+    pub size: Wide,
+}
+
+// The sum of two. The sum of the sizes and both differences are made, and one of them is picked: the signs and the order of random
+// operands would be mispredicted as branches. The highest bit of a difference tells that the first is under the second.
+pub fn add_signed(x: Signed, y: Signed) -> Signed
+    requires { (value x.size < 2 ^ 127) × (value y.size < 2 ^ 127) }
+    ensures { SumOf x.neg y.neg (value x.size) (value y.size) result.neg (value result.size) }
+{
+    let sum = wide::add(x.size, y.size);
+    let up = wide::sub(y.size, x.size);
+    let down = wide::sub(x.size, y.size);
+    let under = SIGN <= down.hi;
+    let rest = wide::pick(under, up, down);
+    Signed {
+        neg: wide::pick(under, y.neg, x.neg),
+        size: wide::pick(x.neg == y.neg, sum, rest),
     }
 }

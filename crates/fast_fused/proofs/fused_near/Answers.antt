@@ -10,9 +10,8 @@ use borrow.Author.Rules.{rules}
 use native.Mathlib.Omega.{arith}
 use Rattle.wide.specs.Words.{value}
 use Rattle.rounding.specs.declared.Direction.TheVariants.{Nearest}
-use Rattle.operands.specs.Machine.{sign_of}
+use Rattle.operands.specs.Machine.{sign_of, SumOf}
 use Rattle.multiply_add.proofs.Products.{fused_is, exact_sum}
-use Rattle.fast_fused.specs.Machine.{SumOf}
 use Rattle.fast_fused.proofs.NearSums.{near_answer}
 use Rattle.fast_fused.proofs.fused_near.Goals as goal
 use Rattle.fast_fused.proofs.fused_near.Goals.{After-negative}

@@ -18,15 +18,15 @@ high : (h l : ℕ) → (h ≡ 0 → ⊥) → h * 2 ^ 64 + l ≡ 0 → ⊥
 high h l n e = omega arith
 
 pub returns-then-hi-ne0 : goal.returns-then-hi-ne0
-returns-then-hi-ne0 c = let w = c.args.w in (λ e. absurd (high w.hi w.lo c.if-hi-ne0.true e), λ h. c.round_normal.ensures)
+returns-then-hi-ne0 c = let w = c.args.sum.size in (λ e. absurd (high w.hi w.lo c.if-hi-ne0.true e), λ h. c.round_normal.ensures)
 
 pub returns-then-lo-ne0 : goal.returns-then-lo-ne0
 returns-then-lo-ne0 c =
-    let a = c.args in
-    let e : a.w.lo ≡ value a.w = sym (ap (λ (x : ℕ). x * 2 ^ 64 + a.w.lo) c.if-hi-ne0.false ∙ zero-add a.w.lo) in
-    (λ z. absurd (c.if-lo-ne0.true (e ∙ z)), λ h. subst (λ (n : ℕ). Rounds Nearest a.neg n a.e c.round_word.result) e (λ num den g x. c.round_word.ensures num den g (λ l. x (lt_of_lt_of_le l (lit≤ tt)))))
+    let w = c.args.sum.size in
+    let e : w.lo ≡ value w = sym (ap (λ (x : ℕ). x * 2 ^ 64 + w.lo) c.if-hi-ne0.false ∙ zero-add w.lo) in
+    (λ z. absurd (c.if-lo-ne0.true (e ∙ z)), λ h. subst (λ (n : ℕ). Rounds Nearest c.args.sum.neg n c.args.e c.round_word.result) e (λ num den g x. c.round_word.ensures num den g (λ l. x (lt_of_lt_of_le l (lit≤ tt)))))
 
 pub returns-else-lo-ne0 : goal.returns-else-lo-ne0
 returns-else-lo-ne0 c =
-    let w = c.args.w in
+    let w = c.args.sum.size in
     (λ e. refl, λ h. absurd (nothing w.hi w.lo c.if-hi-ne0.false c.if-lo-ne0.false h))

@@ -15,7 +15,7 @@ align-requires c =
     let a = c.args.a in
     let b = c.args.b in
     let q = c.args.c in
-    (product_ready a b (value c.product-p.result) c.product-p.ensures, addend_ready q, exponents a b, exponent q.e q.small)
+    (product_ready a b (value c.product.result) c.product.ensures, addend_ready q, exponents a b, exponent q.e q.small)
 
 pub returns : goal.returns
 returns c =
@@ -23,4 +23,4 @@ returns c =
     let a = c.args.a in
     let b = c.args.b in
     let q = c.args.c in
-    c.align.ensures A B d D (p ∙ ap (λ (x : ℕ). x * 2 ^ (a.e + b.e) * d) (sym c.product-p.ensures)) (p' ∙ ap (λ (x : ℕ). x * 2 ^ (q.e + 1073) * d) (sym (add-zero (q.m * 1024 * 2 ^ 64))))
+    c.align.ensures A B d D (p ∙ ap (λ (x : ℕ). x * 2 ^ (a.e + b.e) * d) (sym c.product.ensures)) (p' ∙ ap (λ (x : ℕ). x * 2 ^ (q.e + 1073) * d) (sym (add-zero (q.m * 1024 * 2 ^ 64))))

@@ -5,7 +5,7 @@ use Prim.Native.Nat.{ℕ, ◌+◌, ◌≤◌, ◌<◌}
 use native.Mathlib.Omega.{arith}
 use Rattle.rounding.proofs.Pattern.{sign_le}
 use Rattle.operands.specs.Machine.{magnitude}
-use Rattle.multiply_add.proofs.Sums.{beq_true}
+use Rattle.operands.proofs.Signs.{beq_true}
 use Rattle.multiply_add.proofs.Special.{infinite_like, infinite_unlike, infinite_finite}
 use Rattle.multiply_add.proofs.infinite_product.Goals as goal
 

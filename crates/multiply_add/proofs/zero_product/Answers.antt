@@ -2,7 +2,7 @@
 use mathlib.Core.Path.{sym, ap, ◌∙◌}
 use mathlib.Core.Logic.{inl, inr}
 use Rattle.rounding.specs.Machine.{sign_bit}
-use Rattle.multiply_add.proofs.Sums.{beq_true, beq_false}
+use Rattle.operands.proofs.Signs.{beq_true, beq_false}
 use Rattle.multiply_add.proofs.Special.{zero_like, zero_other, zero_zero}
 use Rattle.multiply_add.proofs.zero_product.Goals as goal
 
