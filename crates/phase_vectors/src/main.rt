@@ -5,6 +5,7 @@
 // tables are `table_of_59` and `table_of_93`, and x is one of theirs.
 #![tactic(auto)]
 
+ghost use Rattle.std.specs.Prelude.{◌≡◌, true};
 ghost use Rattle.exponential.specs.Range.{InRange};
 
 use exceptions::Stretch;
@@ -13,69 +14,40 @@ use pair::Pair;
 use vectors::Answer;
 
 // What a line's phase or table gives for its first number, of which the others are wanted.
-fn answer(line: &[u8]) -> Answer {
-    let name = vectors::name_of(line);
-    let numbers = vectors::numbers_of(line);
-    let v = numbers.values;
-    if numbers.count == 3 {
-        return phase(name, math::from_bits(v[0]), v[1], v[2]);
-    }
-    if numbers.count == 2 {
-        return table(name, math::from_bits(v[0]), v[1]);
-    }
-    Answer::Malformed
-}
-
-fn table(name: &[u8], x: f64, want: u64) -> Answer {
-    if check::same(name, b"table_of_59") {
-        return found(exceptions::exception(Stretch::Tiny, x), want);
-    }
-    if check::same(name, b"table_of_93") {
-        return found(exceptions::exception(Stretch::Wide, x), want);
-    }
-    Answer::Malformed
-}
-
-fn found(entry: Option<f64>, want: u64) -> Answer {
-    match entry {
-        Some(reply) => Answer::Found {
-            got: math::to_bits(reply),
-            want,
-        },
-        None => Answer::Malformed,
+fn answer(line: &[u8]) -> Option<Answer> {
+    match vectors::name_of(line) {
+        b"table_of_59" => table(Stretch::Tiny, line),
+        b"table_of_93" => table(Stretch::Wide, line),
+        name => {
+            let [x, hi, lo] = vectors::numbers_of::<3>(line)?;
+            let pair = phase(name, math::from_bits(x))?;
+            Some(compare(pair, hi, lo))
+        }
     }
 }
 
-fn phase(name: &[u8], x: f64, hi: u64, lo: u64) -> Answer {
-    if check::same(name, b"exp2m1_fast_tiny") {
-        return compare(exp2m1_tiny::exp2m1_fast_tiny(x).pair, hi, lo);
-    }
-    if check::same(name, b"polynomial_q") {
-        return compare(exp2m1_tiny::polynomial_q(x), hi, lo);
-    }
-    power(name, x, hi, lo)
+fn table(stretch: Stretch, line: &[u8]) -> Option<Answer> {
+    let [x, want] = vectors::numbers_of::<2>(line)?;
+    let reply = exceptions::exception(stretch, math::from_bits(x))?;
+    let got = math::to_bits(reply);
+    Some(Answer { got, want })
 }
 
-fn power(name: &[u8], x: f64, hi: u64, lo: u64) -> Answer {
-    if 0.125 <= x && x <= 1024.0 {
-        return power_in_range(name, x, hi, lo);
+fn phase(name: &[u8], x: f64) -> Option<Pair> {
+    match name {
+        b"exp2m1_fast_tiny" => Some(exp2m1_tiny::exp2m1_fast_tiny(x).pair),
+        b"polynomial_q" => Some(exp2m1_tiny::polynomial_q(x)),
+        b"exp_1" if is_in_range(x) => Some(fast_power(x)),
+        b"exp_2" if is_in_range(x) => Some(exponential::exp_2(x)),
+        _ => None,
     }
-    if 0.125 <= -x && -x <= 54.0 {
-        return power_in_range(name, x, hi, lo);
-    }
-    Answer::Malformed
 }
 
-fn power_in_range(name: &[u8], x: f64, hi: u64, lo: u64) -> Answer
-    requires { InRange x }
+// Whether x is one that the powers take.
+fn is_in_range(x: f64) -> bool
+    ensures { result ≡ true → InRange x }
 {
-    if check::same(name, b"exp_1") {
-        return compare(fast_power(x), hi, lo);
-    }
-    if check::same(name, b"exp_2") {
-        return compare(exponential::exp_2(x), hi, lo);
-    }
-    Answer::Malformed
+    0.125 <= x && x <= 1024.0 || 0.125 <= -x && -x <= 54.0
 }
 
 // exp_1 as the fast phase calls it.
@@ -90,25 +62,14 @@ fn fast_power(x: f64) -> Pair
 fn compare(p: Pair, hi: u64, lo: u64) -> Answer {
     let got = math::to_bits(p.hi);
     if got == hi {
-        return Answer::Found {
+        return Answer {
             got: math::to_bits(p.lo),
             want: lo,
         };
     }
-    Answer::Found { got, want: hi }
-}
-
-fn run<P: Print>(rt: &P, text: &[u8]) {
-    let mut progress = vectors::start();
-    while progress.at < text.len() {
-        let answer = answer(vectors::line(text, progress.at));
-        progress = vectors::next(rt, text, progress, answer);
-    }
-    vectors::print_count(rt, progress);
+    Answer { got, want: hi }
 }
 
 fn main(rt: HostRuntime) {
-    let mut space = vectors::space();
-    let len = vectors::read_text(&rt, &mut rt.stdin(), &mut space);
-    run(&rt, &space[..len]);
+    vectors::run(&rt, &mut rt.stdin(), answer);
 }

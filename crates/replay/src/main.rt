@@ -2,8 +2,6 @@
 // buffer that is not refused, so that each call answers one frame at most. The answers are written as they come.
 #![tactic(auto)]
 
-ghost use Rattle.std.specs.Prelude.{◌≤◌, ◌<◌};
-
 use service::State;
 
 // Document 01: "buffer 516 works, 515: 6".
@@ -12,50 +10,31 @@ const BUFFER: usize = 516;
 // After a piece of this length the next one has one byte again.
 const LONGEST_PIECE: usize = 1000;
 
-// Where the piece of this size ends, or the stream, whichever comes first.
-fn piece_end(at: usize, size: usize, len: usize) -> usize
-    requires { (at < len) × (0 < size) }
-    ensures { (at < result) × (result ≤ len) }
-{
-    if size < len - at {
-        return at + size;
-    }
-    len
-}
-
-fn next_size(size: usize) -> usize
-    ensures { 0 < result }
-{
-    size % LONGEST_PIECE + 1
-}
-
 // The end of the stream: an unfinished frame is refused.
 fn finish<P: Print>(rt: &P, state: State) {
     let mut answer = [0u8; BUFFER];
     let closed = service::close(state, &mut answer);
-    let len = closed.len;
-    let _ = rt.write_all(&answer[..len]);
+    let _ = rt.write_all(&answer[..closed.len]);
 }
 
+#[tactic(auto, using(service::proofs::Calls::fresh_good))]
 fn replay<P: Print>(rt: &P, stream: &[u8]) {
     let mut answer = [0u8; BUFFER];
     let mut state = service::fresh();
-    let mut at = 0;
+    let mut rest = stream;
     let mut size = 1;
-    while at < stream.len() {
-        let end = piece_end(at, size, stream.len());
-        let handed = delivery::hand_on(state, &stream[at..end], &mut answer);
-        let len = handed.len;
-        let _ = rt.write_all(&answer[..len]);
+    while !rest.is_empty() {
+        let piece = rest.get(..size).unwrap_or(rest);
+        let handed = delivery::hand_on(state, piece, &mut answer);
+        let _ = rt.write_all(&answer[..handed.len]);
         state = handed.state;
-        at += handed.used;
-        size = next_size(size);
+        rest = &rest[handed.used..];
+        size = size % LONGEST_PIECE + 1;
     }
     finish(rt, state);
 }
 
 fn main(rt: HostRuntime) {
     let mut space = vectors::space();
-    let len = vectors::read_text(&rt, &mut rt.stdin(), &mut space);
-    replay(&rt, &space[..len]);
+    replay(&rt, vectors::read_text(&rt, &mut rt.stdin(), &mut space));
 }

@@ -470,6 +470,5 @@ fn run_all<P: Print>(rt: &P, stream: &[u8])
 
 fn main(rt: HostRuntime) {
     let mut space = vectors::space();
-    let len = vectors::read_text(&rt, &mut rt.stdin(), &mut space);
-    run_all(&rt, &space[..len]);
+    run_all(&rt, vectors::read_text(&rt, &mut rt.stdin(), &mut space));
 }
