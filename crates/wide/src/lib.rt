@@ -95,13 +95,6 @@ pub fn pick<T: Copy>(b: bool, x: T, y: T) -> T
     if b { x } else { y }
 }
 
-// The same for words.
-pub fn pick_word(b: bool, x: u64, y: u64) -> u64
-    ensures { result ≡ (if b then x else y) }
-{
-    if b { x } else { y }
-}
-
 // q, made odd where something is lost below it.
 pub fn set_sticky(q: u64, rest: u64) -> u64
     ensures { result ≡ sticky q rest }
