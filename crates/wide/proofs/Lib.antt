@@ -2,5 +2,4 @@
 pub mod Nat
 pub mod Sticky
 mod Product
-mod Sums
 pub mod Shifts

@@ -58,10 +58,10 @@ pub fn multiply(u: u64, v: u64) -> Wide
 pub fn add(x: Wide, y: Wide) -> Wide
     ensures { value result ≡ (value x + value y) % 2 ^ 128 }
 {
-    let lo = std::num::wrapping_add_u64(x.lo, y.lo);
-    let hi = std::num::wrapping_add_u64(x.hi, y.hi);
+    let lo = x.lo.wrapping_add(y.lo);
+    let hi = x.hi.wrapping_add(y.hi);
     if lo < x.lo {
-        let carried = std::num::wrapping_add_u64(hi, 1);
+        let carried = hi.wrapping_add(1);
         Wide { hi: carried, lo }
     } else {
         Wide { hi, lo }
@@ -72,10 +72,10 @@ pub fn add(x: Wide, y: Wide) -> Wide
 pub fn sub(x: Wide, y: Wide) -> Wide
     ensures { (value result + value y) % 2 ^ 128 ≡ value x }
 {
-    let lo = std::num::wrapping_sub_u64(x.lo, y.lo);
-    let hi = std::num::wrapping_sub_u64(x.hi, y.hi);
+    let lo = x.lo.wrapping_sub(y.lo);
+    let hi = x.hi.wrapping_sub(y.hi);
     if x.lo < y.lo {
-        let borrowed = std::num::wrapping_sub_u64(hi, 1);
+        let borrowed = hi.wrapping_sub(1);
         Wide { hi: borrowed, lo }
     } else {
         Wide { hi, lo }
