@@ -27,6 +27,7 @@ pub fn fast_two_sum(a: f64, b: f64) -> Pair
 }
 
 // Add a + (bh + bl), assuming |a| >= |bh|.
+#[tactic(auto, unfolding(crate::specs::Pairs::fast_sum))]
 pub fn fast_sum(a: f64, b: Pair) -> Pair
     ensures { result ≡ fast_sum a b }
 {
@@ -36,6 +37,7 @@ pub fn fast_sum(a: f64, b: Pair) -> Pair
 }
 
 // Returns (ah + al) * (bh + bl) - (al * bl).
+#[tactic(auto, using(crate::proofs::Chains::link), unfolding(crate::specs::Pairs::a_mul, crate::specs::Pairs::d_mul))]
 pub fn d_mul(a: Pair, b: Pair) -> Pair
     ensures { result ≡ d_mul a b }
 {
@@ -50,6 +52,7 @@ pub fn d_mul(a: Pair, b: Pair) -> Pair
 }
 
 // Multiply a double with a double-double: a * (bh + bl).
+#[tactic(auto, using(crate::proofs::Chains::link), unfolding(crate::specs::Pairs::a_mul, crate::specs::Pairs::s_mul))]
 pub fn s_mul(a: f64, b: Pair) -> Pair
     ensures { result ≡ s_mul a b }
 {
@@ -62,6 +65,7 @@ pub fn s_mul(a: f64, b: Pair) -> Pair
 }
 
 // Multiply exactly a and b, such that hi + lo = a * b.
+#[tactic(auto, unfolding(crate::specs::Pairs::a_mul))]
 pub fn a_mul(a: f64, b: f64) -> Pair
     ensures value { result ≡ a_mul a b }
     ensures exact { ProductExact a b result }
@@ -81,10 +85,8 @@ fn error_bits(a: f64, b: f64, hi: f64) -> u64
     if hi == hi {
         let x = f64::to_bits(a);
         let y = f64::to_bits(b);
-        if is_middle(field(x)) {
-            if is_middle(field(y)) {
-                return f64::to_bits(dekker_error(a, b, hi, x, y));
-            }
+        if is_middle(field(x)) && is_middle(field(y)) {
+            return f64::to_bits(dekker_error(a, b, hi, x, y));
         }
     }
     math::fma_bits(math::pattern(a), math::pattern(b), math::pattern(-hi))

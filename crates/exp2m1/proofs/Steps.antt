@@ -1,11 +1,11 @@
 -- The steps by the tests that lead to them, over any list of entries, pattern ux and weight x. Assumes nothing.
 use mathlib.Core.Path.{◌≡◌, refl, sym, ap, ◌∙◌, subst}
-use mathlib.Core.Bool.{Bool, true, false, not, cond}
+use mathlib.Core.Bool.{Bool, true, false, not}
 use mathlib.Core.List.{List}
 use Prim.Native.Nat.{ℕ, ◌%◌, ◌^◌, ◌≤◌, ◌<◌}
 use native.Mathlib.Nat.{le_trans, le_of_lt}
-use lib.Dec.{T, leb, lit≤, lit<}
-use lib.Ieee.{Float, nan, binary64, eq, of_bits, to_bits, is_nan}
+use lib.Dec.{T, lit≤, lit<}
+use lib.Ieee.{Float, nan, binary64, of_bits, to_bits, is_nan}
 use lib.Ieee.Bits.{to_bits-of_bits, nan_bits_is, nan_bits_above}
 use borrow.Author.Tests.{le-leb, lt-leb, le-ltb, lt-ltb, ltb-true}
 use Rattle.ieee754.proofs.Nans.{only_nan}
@@ -14,8 +14,8 @@ use Rattle.exceptions.specs.declared.Entry.{Entry}
 use Rattle.std.specs.Prelude.{unwrap_or}
 use Rattle.exceptions.specs.Lookup.{find}
 use Rattle.exp2m1_whole.specs.Whole.{exp2m1_whole}
-use Rattle.exp2m1.specs.Phases.{zero, exp2m1_scaled, exp2m1_two_terms, exp2m1_fast, exp2m1_accurate}
-use Rattle.exp2m1.specs.Score.{is_whole, rounded, steps}
+use Rattle.exp2m1.specs.Phases.{exp2m1_two_terms}
+use Rattle.exp2m1.specs.Score.{is_whole, steps}
 
 module _ (list : List Entry) (ux : ℕ) (x : Float) where
   pub step_1 : 0x7ff0000000000000 < ux % 2 ^ 63 → steps list ux x ≡ bits 0x7ff8000000000000
@@ -26,18 +26,10 @@ module _ (list : List Entry) (ux : ℕ) (x : Float) where
   unfolding steps
   step_2 n h = rw (le-ltb _ _ n, le-leb _ _ h)
 
-  pub step_3 : ux % 2 ^ 63 ≤ 0x7ff0000000000000 → ux < 0xc04b000000000000 → 0x4090000000000000 ≤ ux % 2 ^ 63 → steps list ux x ≡ bits 0x7ff0000000000000
-  unfolding steps
-  step_3 n d h = rw (le-ltb _ _ n, lt-leb _ _ d, le-leb _ _ h)
-
-  -- steps 4 to 8
+  -- steps 5 and 6
   module _ (d : ux < 0xc04b000000000000) (l : ux % 2 ^ 63 < 0x4090000000000000) where
     small : ux % 2 ^ 63 ≤ 0x7ff0000000000000
     small = le_trans (le_of_lt l) (lit≤ tt)
-
-    pub step_4 : ux % 2 ^ 63 ≤ 0x3970000000000000 → steps list ux x ≡ cond (eq x zero) x (exp2m1_scaled x)
-    unfolding steps
-    step_4 h = rw (le-ltb _ _ small, lt-leb _ _ d, lt-leb _ _ l, le-leb _ _ h)
 
     pub step_5 : 0x3970000000000000 < ux % 2 ^ 63 → ux % 2 ^ 63 ≤ 0x3cc0527dbd87e24d → steps list ux x ≡ unwrap_or (find list x) (exp2m1_two_terms x)
     unfolding steps
@@ -50,10 +42,6 @@ module _ (list : List Entry) (ux : ℕ) (x : Float) where
       pub step_6 : is_whole ux x ≡ true → steps list ux x ≡ exp2m1_whole x
       unfolding steps
       step_6 w = rw (le-ltb _ _ small, lt-leb _ _ d, lt-leb _ _ l, lt-leb _ _ over, lt-leb _ _ h, w)
-
-      pub step_7 : is_whole ux x ≡ false → steps list ux x ≡ rounded (exp2m1_fast x (leb (ux % 2 ^ 63) 0x3fc0000000000000)) (exp2m1_accurate x)
-      unfolding steps
-      step_7 w = rw (le-ltb _ _ small, lt-leb _ _ d, lt-leb _ _ l, lt-leb _ _ over, lt-leb _ _ h, w)
 
 nan_bits : 0x7ff0000000000000 < to_bits binary64 nan % 2 ^ 63
 unfolding to_bits

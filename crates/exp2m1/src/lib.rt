@@ -57,6 +57,7 @@ pub fn score(x: u64) -> u64
 }
 
 // The score where another list stands in for the first table of exceptional cases, and has found for x.
+#[tactic(auto, using(crate::proofs::Small::small, crate::proofs::Small::elsewhere), unfolding(crate::specs::Score::score_bits))]
 pub fn score_found(x: u64, found: Option<f64>) -> u64
     ensures { (list : List Entry) → found ≡ find list (bits x) → result ≡ score_with list x }
 {
@@ -85,6 +86,7 @@ fn exp2m1(x: f64) -> f64
     cr_exp2m1(x)
 }
 
+#[tactic(auto, unfolding(crate::specs::Score::steps))]
 fn cr_exp2m1(x: f64) -> f64
     ensures { result ≡ steps (entries First) (to_bits binary64 x) x }
 {
@@ -124,6 +126,7 @@ fn cr_exp2m1(x: f64) -> f64
 }
 
 // The fast phase where its error bound decides the rounding, and the accurate phase otherwise.
+#[tactic(auto, unfolding(crate::specs::Score::rounded))]
 fn exp2m1_phases(x: f64, tiny: bool) -> f64
     requires { Bounded x × (tiny ≡ leb (to_bits binary64 x % 2 ^ 63) 0x3fc0000000000000) }
     ensures { result ≡ rounded (exp2m1_fast x tiny) (exp2m1_accurate x) }
@@ -197,6 +200,7 @@ fn is_whole(ux: u64, x: f64) -> bool
 // a double-double approximation of exp2m1(x), and return the maximal corresponding
 // absolute error.
 // The input tiny is true iff |x| <= 0.125.
+#[tactic(auto, unfolding(crate::specs::Phases::exp2m1_fast))]
 fn exp2m1_fast(x: f64, tiny: bool) -> Estimate
     requires { Bounded x × (tiny ≡ leb (to_bits binary64 x % 2 ^ 63) 0x3fc0000000000000) }
     ensures { result ≡ exp2m1_fast x tiny }
@@ -235,6 +239,7 @@ fn subtract_one(x: f64, p: Pair) -> Pair
     }
 }
 
+#[tactic(auto, unfolding(crate::specs::Phases::exp2m1_accurate))]
 fn exp2m1_accurate(x: f64) -> f64
     requires { Bounded x }
     ensures { result ≡ exp2m1_accurate x }

@@ -31,6 +31,7 @@ const TWO_M12: f64 = f64::from_bits(0x3f30000000000000); // 0x1p-12
 // Approximation of exp(x), where x = xh + xl.
 //
 // We get (hi + lo) / exp(xh + xl) = 1 + eps with |eps| < 2^-74.139.
+#[tactic(auto, using(crate::proofs::Range::arrives), unfolding(crate::specs::Exponential::exp1))]
 pub fn exp_1(x: Pair) -> Pair
     requires { InLogRange x.hi }
     ensures { result ≡ exp1 x }
@@ -51,6 +52,7 @@ pub fn exp_1(x: Pair) -> Pair
 }
 
 // Returns a double-double approximation hi+lo of exp(x*log(2)).
+#[tactic(auto, using(crate::proofs::Range::arrives), unfolding(crate::specs::Exponential::exp2))]
 pub fn exp_2(x: f64) -> Pair
     requires { InRange x }
     ensures { result ≡ exp2 x }
@@ -66,6 +68,7 @@ pub fn exp_2(x: f64) -> Pair
 }
 
 // q * 2^(k/2^12): the tables give the power up to a whole power of two.
+#[tactic(auto, unfolding(crate::specs::Exponential::times_power))]
 fn times_power(k: i64, q: Pair) -> Pair
     requires { Index k }
     ensures { result ≡ times_power k q }
@@ -76,18 +79,21 @@ fn times_power(k: i64, q: Pair) -> Pair
     scale(d_mul(p, q), exponent_word(k))
 }
 
+#[tactic(auto, using(crate::proofs::Bits::casts, crate::proofs::Bits::high_bits), unfolding(crate::specs::Exponential::i2))]
 fn bits_6_to_11(k: i64) -> usize
     ensures { result ≡ i2 k }
 {
     ((k >> 6) & 0x3f) as usize
 }
 
+#[tactic(auto, using(crate::proofs::Bits::casts, crate::proofs::Bits::low_bits), unfolding(crate::specs::Exponential::i1))]
 fn bits_0_to_5(k: i64) -> usize
     ensures { result ≡ i1 k }
 {
     (k & 0x3f) as usize
 }
 
+#[tactic(auto, using(crate::proofs::Bits::casts, crate::proofs::Bits::word_le, crate::proofs::Bits::word_sum, crate::proofs::Bits::word_fits, crate::proofs::Bits::word_back))]
 fn exponent_word(k: i64) -> u64
     requires { Index k }
     ensures { result ≡ exponent_word k }
@@ -96,6 +102,7 @@ fn exponent_word(k: i64) -> u64
 }
 
 // Scale by 2^k. Warning: for x near 1024, we can have k=2^22, thus m = 2047, which encodes Inf.
+#[tactic(auto, unfolding(crate::specs::Exponential::scaled))]
 fn scale(p: Pair, m: u64) -> Pair
     requires { m ≤ 0x7ff }
     ensures { result ≡ scaled p m }
@@ -128,6 +135,7 @@ const Q_1_4: f64 = f64::from_bits(0x3fa55555558489dc); // 0x1.55555558489dcp-5, 
 
 // Approximation for the fast path of exp(z) for z=zh+zl, with
 // |z| < 0.000130273 < 2^-12.88 and |zl| < 2^-42.6.
+#[tactic(auto, using(double_double::proofs::Chains::link), unfolding(crate::specs::Exponential::q1))]
 fn q_1(z: Pair) -> Pair
     ensures { result ≡ q1 z }
 {
@@ -161,6 +169,7 @@ const Q_2_8: f64 = f64::from_bits(0x3f2a01a023ede0d7); // 0x1.a01a023ede0d7p-13,
 
 // Approximation for the accurate path of exp(z) for z=zh+zl, with
 // |z| < 0.000130273 < 2^-12.88 and |zl| < 2^-42.6.
+#[tactic(auto, unfolding(crate::specs::Exponential::q2))]
 fn q_2(z: Pair) -> Pair
     ensures { result ≡ q2 z }
 {

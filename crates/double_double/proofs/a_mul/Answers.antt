@@ -1,5 +1,5 @@
 -- `double_double::a_mul` meets its contract. Assumes nothing.
-use mathlib.Core.Path.{ap, sym, subst, ◌∙◌}
+use mathlib.Core.Path.{sym, subst, ◌∙◌}
 use lib.Dec.{T}
 use lib.Ieee.{Float, binary64, mul}
 use Rattle.pair.specs.Pair.{pair}
@@ -7,10 +7,6 @@ use Rattle.double_double.specs.Pairs.{a_mul}
 use Rattle.double_double.specs.Exactness.{ProductExact}
 use Rattle.double_double.proofs.Exact.{a_mul-exact}
 use Rattle.double_double.proofs.a_mul.Goals as goal
-
-pub returns-clause-value : goal.returns-clause-value
-unfolding a_mul
-returns-clause-value c = ap (λ (lo : Float). pair (mul binary64 c.args.a c.args.b) lo) (c.from_bits-lo.ensures ∙ c.error_bits-lo.ensures)
 
 pub returns-clause-exact : goal.returns-clause-exact
 unfolding a_mul

