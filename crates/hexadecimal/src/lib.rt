@@ -2,12 +2,12 @@
 // what a text of it is worth, is defined in specs/Text.antt; specs/Form.antt states that the test decides the form.
 #![tactic(auto)]
 
-ghost use Rattle.std.specs.Prelude.{◌≡◌, ◌&&◌, ◌||◌, cond, leb, ltb, eqb};
+ghost use Rattle.std.specs.Prelude.{◌≡◌, ◌<◌, SomeIff};
 ghost use Rattle.hexadecimal.specs.Text.{digit_of, is_hexadecimal, is_decimal};
 ghost use Rattle.hexadecimal.specs.Test.{next_stage, is_last};
 
 // What of the form has been read.
-#[derive(Clone, Copy)]
+#[derive(Clone, Copy, PartialEq, Eq)]
 pub enum Stage {
     Start,
     Signed,
@@ -28,93 +28,42 @@ pub enum Stage {
     Malformed,
 }
 
-fn is_between(b: u8, low: u8, high: u8) -> bool
-    ensures { result ≡ (leb low b && ltb b high) }
+// The value of a digit.
+#[tactic(auto, unfolding(crate::specs::Text::digit_of))]
+pub fn digit(b: u8) -> Option<u32>
+    ensures { SomeIff result (digit_of b < 16) (digit_of b) }
 {
-    if low <= b { b < high } else { false }
+    char::from(b).to_digit(16)
 }
 
-// The value of a digit, or 16. All values are made and one is picked: which digits a text has is no branch.
-pub fn digit(b: u8) -> u64
-    ensures { result ≡ digit_of b }
-{
-    let figure = (b % 16) as u64;
-    let letter = (b % 32 + 9) as u64;
-    let lower = wide::pick_word(is_between(b, 97, 103), letter, 16);
-    let upper = wide::pick_word(is_between(b, 65, 71), letter, lower);
-    wide::pick_word(is_between(b, 48, 58), figure, upper)
-}
-
-fn is_hexadecimal(b: u8) -> bool
-    ensures { result ≡ is_hexadecimal b }
-{
-    digit(b) < 16
-}
-
-fn is_decimal(b: u8) -> bool
-    ensures { result ≡ is_decimal b }
-{
-    digit(b) < 10
-}
-
-fn either(b: u8, one: u8, other: u8) -> bool
-    ensures { result ≡ (eqb b one || eqb b other) }
-{
-    if b == one { true } else { b == other }
-}
-
-fn pick(test: bool, yes: Stage, no: Stage) -> Stage
-    ensures { result ≡ cond test yes no }
-{
-    if test { yes } else { no }
-}
-
-// The stage after one more byte.
-pub fn next(stage: Stage, b: u8) -> Stage
-    ensures { result ≡ next_stage stage b }
-{
-    let sign = either(b, b'+', b'-');
-    let digit = is_hexadecimal(b);
-    let zero = pick(b == b'0', Stage::Zero, Stage::Malformed);
-    let p = pick(either(b, b'p', b'P'), Stage::P, Stage::Malformed);
-    let fraction = pick(digit, Stage::Fraction, p);
-    let exponent = pick(is_decimal(b), Stage::Exponent, Stage::Malformed);
-    match stage {
-        Stage::Start => pick(sign, Stage::Signed, zero),
-        Stage::Signed => zero,
-        Stage::Zero => pick(either(b, b'x', b'X'), Stage::Prefix, Stage::Malformed),
-        Stage::Prefix => pick(
-            digit,
-            Stage::Whole,
-            pick(b == b'.', Stage::LonePoint, Stage::Malformed),
-        ),
-        Stage::Whole => pick(digit, Stage::Whole, pick(b == b'.', Stage::Point, p)),
-        Stage::LonePoint => pick(digit, Stage::Fraction, Stage::Malformed),
-        Stage::Point => fraction,
-        Stage::Fraction => fraction,
-        Stage::P => pick(sign, Stage::ExponentSigned, exponent),
-        Stage::ExponentSigned => exponent,
-        Stage::Exponent => exponent,
-        Stage::Malformed => Stage::Malformed,
+impl Stage {
+    // The stage after one more byte.
+    #[tactic(auto, unfolding(crate::specs::Test::next_stage, crate::specs::Text::digit_of))]
+    pub fn next(self, b: u8) -> Stage
+        ensures { result ≡ next_stage self b }
+    {
+        match (self, b) {
+            (Stage::Start, b'+' | b'-') => Stage::Signed,
+            (Stage::Start | Stage::Signed, b'0') => Stage::Zero,
+            (Stage::Zero, b'x' | b'X') => Stage::Prefix,
+            (Stage::Prefix | Stage::Whole, b'0'..=b'9' | b'A'..=b'F' | b'a'..=b'f') => Stage::Whole,
+            (Stage::Prefix, b'.') => Stage::LonePoint,
+            (Stage::Whole, b'.') => Stage::Point,
+            (
+                Stage::LonePoint | Stage::Point | Stage::Fraction,
+                b'0'..=b'9' | b'A'..=b'F' | b'a'..=b'f',
+            ) => Stage::Fraction,
+            (Stage::Whole | Stage::Point | Stage::Fraction, b'p' | b'P') => Stage::P,
+            (Stage::P, b'+' | b'-') => Stage::ExponentSigned,
+            (Stage::P | Stage::ExponentSigned | Stage::Exponent, b'0'..=b'9') => Stage::Exponent,
+            _ => Stage::Malformed,
+        }
     }
-}
 
-// Whether a text of the form may end here.
-pub fn is_last(stage: Stage) -> bool
-    ensures { result ≡ is_last stage }
-{
-    match stage {
-        Stage::Start => false,
-        Stage::Signed => false,
-        Stage::Zero => false,
-        Stage::Prefix => false,
-        Stage::Whole => false,
-        Stage::LonePoint => false,
-        Stage::Point => false,
-        Stage::Fraction => false,
-        Stage::P => false,
-        Stage::ExponentSigned => false,
-        Stage::Exponent => true,
-        Stage::Malformed => false,
+    // Whether a text of the form may end here.
+    pub fn is_last(self) -> bool
+        ensures { result ≡ is_last self }
+    {
+        self == Stage::Exponent
     }
 }
