@@ -6,8 +6,7 @@ use native.Mathlib.Nat.{le_trans, le_of_eq, lt_of_lt_of_le, lt_irrefl, not-le_of
 use native.Mathlib.Omega.{arith}
 use lib.Dec.{lit≤, lit<}
 use lib.Pow.{pow-add, pow_pos, pow_mono, shl_lt}
-use Rattle.reply.specs.declared.Reply.{Reply}
-use Rattle.reply.specs.declared.Reply.TheVariants.{Refused}
+use Rattle.std.specs.Prelude.{Result, Err}
 use Rattle.constant.specs.Machine.{RepliesBits, RepliesPlaced}
 use Rattle.constant.proofs.Exactly.{Finite, exactly_none}
 
@@ -57,7 +56,7 @@ swapped : (a b c : ℕ) → a * b * c ≡ c * (b * a)
 swapped a b c = simp (mul_assoc, mul_comm, mul_left_comm)
 
 module _ (s : Bool) (m t above below : ℕ) (M : 0 < m) where
-  pub placed_small : m ≤ 0x1000000000000000 → t ≤ 4 → above + 284 < below → RepliesPlaced s m t above below (Refused 10)
+  pub placed_small : m ≤ 0x1000000000000000 → t ≤ 4 → above + 284 < below → RepliesPlaced s m t above below (Err 10)
   placed_small m60 t4 h num den D is = sym (exactly_none s num den D (small_none num den D some little))
     where
       some : 0 < num
@@ -76,7 +75,7 @@ module _ (s : Bool) (m t above below : ℕ) (M : 0 < m) where
           (le_of_eq (swapped (16 ^ 16) (16 ^ above) den ∙ ap (λ (x : ℕ). den * x) (sym (pow-add 16 above 16))))))))
           (pow16_pos (above + 16))
 
-  pub placed_large : below + 256 < above → RepliesPlaced s m t above below (Refused 10)
+  pub placed_large : below + 256 < above → RepliesPlaced s m t above below (Err 10)
   placed_large h num den D is = sym (exactly_none s num den D (large_none num den D much))
     where
       far : (a b : ℕ) → b + 256 < a → 257 + b ≤ a
@@ -90,7 +89,7 @@ module _ (s : Bool) (m t above below : ℕ) (M : 0 < m) where
           (le_of_eq (sym is))))
           (pow16_pos below)
 
-  pub placed_bits : (r : Reply) → below ≤ above + 284 → RepliesBits s m (4 * (above + 284 - below) + t) r → RepliesPlaced s m t above below r
+  pub placed_bits : (r : Result ℕ ℕ) → below ≤ above + 284 → RepliesBits s m (4 * (above + 284 - below) + t) r → RepliesPlaced s m t above below r
   placed_bits r h f num den D is =
       f num den D
       (eq_of_mul-eq-mul_right (16 ^ below) (pow16_pos below) (num * 2 ^ 1136) (m * 2 ^ (4 * d + t) * den)

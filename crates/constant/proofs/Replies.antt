@@ -13,6 +13,7 @@ use lib.Ieee.{Float, nan, inf, fin, binary64, up, down, of_bits}
 use lib.Ieee.Exact.{HasValue}
 use lib.Ieee.Fits.{down_pos}
 use borrow.Author.Tests.{le-leb, lt-leb}
+use Rattle.std.specs.Prelude.{Result, Ok, Err}
 use Rattle.wide.proofs.Nat.{le_or_gt}
 use Rattle.rounding.specs.Machine.{sign_bit}
 use Rattle.operands.specs.Machine.{sign_of, magnitude}
@@ -21,8 +22,6 @@ use Rattle.hexadecimal.specs.Text.{Parts, Spells, HasForm, parts_of, negative, n
 use Rattle.hexadecimal.specs.Test.{is_last, has_form}
 use Rattle.hexadecimal.proofs.Steps.{steps}
 use Rattle.hexadecimal.proofs.Form.{decides, parts_of_lem}
-use Rattle.reply.specs.declared.Reply.{Reply}
-use Rattle.reply.specs.declared.Reply.TheVariants.{Refused, Bits}
 use Rattle.constant.specs.Constant.{exactly, value_of, constant_of, IsValue, Replies, Settles, ZeroKeepsSign}
 use Rattle.constant.proofs.Exactly.{Finite, Outcome, float, none, outcome, exactly_bits, exactly_none}
 use Rattle.constant.specs.Machine.{read_from, unread, Finishes}
@@ -126,11 +125,11 @@ den_pos parts = line_pos (is_minus parts.exponent_sign) (length parts.fraction) 
 
 with_form : (text : List ℕ) → has_form text ≡ true → constant_of text ≡ value_of (parts_of text)
 unfolding constant_of
-with_form text e = ap (λ (b : Bool). cond b (value_of (parts_of text)) (Refused 9)) e
+with_form text e = ap (λ (b : Bool). cond b (value_of (parts_of text)) (Err 9)) e
 
-without_form : (text : List ℕ) → has_form text ≡ false → constant_of text ≡ Refused 9
+without_form : (text : List ℕ) → has_form text ≡ false → constant_of text ≡ Err 9
 unfolding constant_of
-without_form text e = ap (λ (b : Bool). cond b (value_of (parts_of text)) (Refused 9)) e
+without_form text e = ap (λ (b : Bool). cond b (value_of (parts_of text)) (Err 9)) e
 
 -- a text that is spelled gets the value of its parts
 pub spelled : (parts : Parts) (text : List ℕ) → Spells parts text → constant_of text ≡ value_of parts
@@ -141,10 +140,10 @@ spelled parts text h = with_form text (passes (has_form text) ((decides text).ne
     passes false t = elim t [ ]
 
 -- and any other is refused
-pub unspelled : (text : List ℕ) → (HasForm text → ⊥) → constant_of text ≡ Refused 9
+pub unspelled : (text : List ℕ) → (HasForm text → ⊥) → constant_of text ≡ Err 9
 unspelled text h = go (has_form text) refl
   where
-    go : (b : Bool) → has_form text ≡ b → constant_of text ≡ Refused 9
+    go : (b : Bool) → has_form text ≡ b → constant_of text ≡ Err 9
     go true e = absurd (h (parts_of text, (decides text).passed (subst T (sym e) tt)))
     go false e = without_form text e
 
@@ -155,18 +154,18 @@ replies_value parts text h = go (outcome (negative parts) (num parts) (den parts
     go (float q k f e) = subst (Replies text) (sym e) (let v = float_value (negative parts) (num parts) (den parts) (den_pos parts) q k f in (parts, h, v.0, v.1))
     go (none n e) = subst (Replies text) (sym e) (inr (refl, (parts, h, λ b B v. let w = value_float (negative parts) (num parts) (den parts) (den_pos parts) b B v in n w.0 w.1.0 w.1.1.0)))
 
-only_value : (parts : Parts) (b : ℕ) → b < 2 ^ 64 → IsValue b parts → Bits b ≡ value_of parts
+only_value : (parts : Parts) (b : ℕ) → b < 2 ^ 64 → IsValue b parts → Ok b ≡ value_of parts
 only_value parts b B v =
     let w = value_float (negative parts) (num parts) (den parts) (den_pos parts) b B v in
-    ap Bits w.1.1.1 ∙ sym (exactly_bits (negative parts) (num parts) (den parts) w.0 w.1.0 (den_pos parts) w.1.1.0)
+    ap Ok w.1.1.1 ∙ sym (exactly_bits (negative parts) (num parts) (den parts) w.0 w.1.0 (den_pos parts) w.1.1.0)
 
-only_inexact : (parts : Parts) → ((b : ℕ) → b < 2 ^ 64 → IsValue b parts → ⊥) → Refused 10 ≡ value_of parts
+only_inexact : (parts : Parts) → ((b : ℕ) → b < 2 ^ 64 → IsValue b parts → ⊥) → Err 10 ≡ value_of parts
 only_inexact parts h = sym (exactly_none (negative parts) (num parts) (den parts) (den_pos parts) (λ q k f. let v = float_value (negative parts) (num parts) (den parts) (den_pos parts) q k f in h (sign_bit (negative parts) + (k * 0x10000000000000 + q)) v.0 v.1))
 
-only : (text : List ℕ) (r : Reply) → Replies text r → r ≡ constant_of text
-only text (Refused n) (inl h) = ap Refused h.0 ∙ sym (unspelled text h.1)
-only text (Refused n) (inr h) = ap Refused h.0 ∙ only_inexact h.1.0 h.1.2 ∙ sym (spelled h.1.0 text h.1.1)
-only text (Bits b) h = only_value h.0 b h.2 h.3 ∙ sym (spelled h.0 text h.1)
+only : (text : List ℕ) (r : Result ℕ ℕ) → Replies text r → r ≡ constant_of text
+only text (Err n) (inl h) = ap Err h.0 ∙ sym (unspelled text h.1)
+only text (Err n) (inr h) = ap Err h.0 ∙ only_inexact h.1.0 h.1.2 ∙ sym (spelled h.1.0 text h.1.1)
+only text (Ok b) h = only_value h.0 b h.2 h.3 ∙ sym (spelled h.0 text h.1)
 
 pub settles : (text : List ℕ) → Settles text
 settles text = record { replies = go (has_form text) refl; only = only text }
@@ -181,14 +180,14 @@ pub zero_keeps_sign : ZeroKeepsSign
 zero_keeps_sign text parts h z =
     spelled parts text h
     ∙ exactly_bits (negative parts) (num parts) (den parts) 0 0 (den_pos parts) (record { small = lit< tt; kept = inl refl; most = lit≤ tt; is = ap (λ (x : ℕ). x * power * 2 ^ 1074) z ∙ ap (λ (x : ℕ). x * 2 ^ 1074) (zero-mul power) ∙ zero-mul (2 ^ 1074) ∙ sym (zero-mul (den parts)) })
-    ∙ ap Bits (add-zero (sign_bit (negative parts)))
+    ∙ ap Ok (add-zero (sign_bit (negative parts)))
   where
     power : ℕ
     power = cond (is_minus parts.exponent_sign) 1 (2 ^ number 10 parts.exponent)
 
 -- ---- the reply to a text that was read
 
-pub read_reply : (text : List ℕ) (r : Reply) → Finishes (read_from unread text) r → r ≡ constant_of text
+pub read_reply : (text : List ℕ) (r : Result ℕ ℕ) → Finishes (read_from unread text) r → r ≡ constant_of text
 unfolding has_form
 read_reply text r f = go (has_form text) refl
   where

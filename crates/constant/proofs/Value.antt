@@ -9,10 +9,9 @@ use native.Mathlib.Omega.{arith}
 use lib.Dec.{ltb, lit≤, lit<}
 use lib.Pow.{pow-add, pow_pos, pow_mono, shl_lt}
 use borrow.Author.Tests.{eqb-true, eqb-false, eq-eqb, ne_eqb, ltb-false}
+use Rattle.std.specs.Prelude.{Result, Ok, Err}
 use Rattle.wide.proofs.Nat.{le_or_gt}
 use Rattle.rounding.specs.Machine.{sign_bit}
-use Rattle.reply.specs.declared.Reply.{Reply}
-use Rattle.reply.specs.declared.Reply.TheVariants.{Refused, Bits}
 use Rattle.constant.specs.declared.Significand.{Significand}
 use Rattle.constant.specs.declared.Power.{Power}
 use Rattle.constant.specs.Constant.{exactly}
@@ -82,8 +81,8 @@ den_pos : (b : Bool) (places power : ℕ) {den : ℕ} → den ≡ 16 ^ places * 
 den_pos b places power h = lt_of_lt_of_le (line_pos b places power) (le_of_eq (sym h))
 
 module _ (s : Significand) (e : Power) (inverse neg : Bool) where
-  pub zero_value : (sign : ℕ) → s.value ≡ 0 → sign ≡ sign_bit neg → (num den : ℕ) → Holds s e inverse num den → Bits sign ≡ exactly neg num den
-  zero_value sign v b num den h = ap Bits (b ∙ sym (add-zero (sign_bit neg))) ∙ sym (exactly_bits neg num den 0 0 (den_pos inverse h.places h.power h.den_is) (record { small = lit< tt; kept = inl refl; most = lit≤ tt; is = ap (λ (x : ℕ). x * 2 ^ 1074) none ∙ zero-mul (2 ^ 1074) ∙ sym (zero-mul den) }))
+  pub zero_value : (sign : ℕ) → s.value ≡ 0 → sign ≡ sign_bit neg → (num den : ℕ) → Holds s e inverse num den → Ok sign ≡ exactly neg num den
+  zero_value sign v b num den h = ap Ok (b ∙ sym (add-zero (sign_bit neg))) ∙ sym (exactly_bits neg num den 0 0 (den_pos inverse h.places h.power h.den_is) (record { small = lit< tt; kept = inl refl; most = lit≤ tt; is = ap (λ (x : ℕ). x * 2 ^ 1074) none ∙ zero-mul (2 ^ 1074) ∙ sym (zero-mul den) }))
     where
       number_zero : (k : Kept s h.number h.places) → h.number ≡ 0
       number_zero k = ⊎_elim (λ g. k.is ∙ ap₂ (λ (x y : ℕ). x * 16 ^ k.dropped + y) v (nothing k.dropped k.rest g k.less) ∙ add-zero (0 * 16 ^ k.dropped) ∙ zero-mul (16 ^ k.dropped)) (λ g. absurd (full s.value v g)) k.full
@@ -94,7 +93,7 @@ module _ (s : Significand) (e : Power) (inverse neg : Bool) where
       none : num ≡ 0
       none = h.num_is ∙ ap (λ (x : ℕ). x * cond inverse 1 (2 ^ h.power)) (number_zero h.kept) ∙ zero-mul (cond inverse 1 (2 ^ h.power))
 
-  pub lost_value : (s.lost ≡ 0 → ⊥) → (num den : ℕ) → Holds s e inverse num den → Refused 10 ≡ exactly neg num den
+  pub lost_value : (s.lost ≡ 0 → ⊥) → (num den : ℕ) → Holds s e inverse num den → Err 10 ≡ exactly neg num den
   lost_value l num den h = sym (exactly_none neg num den (den_pos inverse h.places h.power h.den_is) none)
     where
       k : Kept s h.number h.places
@@ -146,7 +145,7 @@ module _ (s : Significand) (e : Power) (inverse neg : Bool) where
       size_above : num * 16 ^ s.lowered ≡ s.value * (16 ^ s.raised * 16 ^ h.places) * 2 ^ h.power
       size_above = ap (λ (x : ℕ). x * 16 ^ s.lowered) num_above ∙ mul_right_comm h.number (2 ^ h.power) (16 ^ s.lowered) ∙ ap (λ (x : ℕ). x * 2 ^ h.power) number_is
 
-      pub large_value : 0 < s.value → s.lowered + 256 < e.quotient → Refused 10 ≡ exactly neg num den
+      pub large_value : 0 < s.value → s.lowered + 256 < e.quotient → Err 10 ≡ exactly neg num den
       large_value v g = sym (exactly_none neg num den positive_den (large_none num den positive_den much))
         where
           far : (p n : ℕ) → 4 * (p + 256 + 1) ≤ n → 4 * (257 + p) ≤ n
@@ -168,7 +167,7 @@ module _ (s : Significand) (e : Power) (inverse neg : Bool) where
               (le_of_eq (inside s.value (16 ^ s.raised) (16 ^ h.places) (2 ^ h.power) ∙ sym size_above))))))
               (pow16_pos s.lowered)
 
-      pub above_value : s.raised + s.lowered ≤ most_places → e.quotient ≤ s.lowered + 256 → (r : Reply) → RepliesPlaced neg s.value e.remainder (s.raised + e.quotient) s.lowered r → r ≡ exactly neg num den
+      pub above_value : s.raised + s.lowered ≤ most_places → e.quotient ≤ s.lowered + 256 → (r : Result ℕ ℕ) → RepliesPlaced neg s.value e.remainder (s.raised + e.quotient) s.lowered r → r ≡ exactly neg num den
       above_value p g r f =
           f num den positive_den
           (size_above
@@ -195,7 +194,7 @@ module _ (s : Significand) (e : Power) (inverse neg : Bool) where
       size_below : num * 16 ^ s.lowered ≡ s.value * (16 ^ s.raised * 16 ^ h.places)
       size_below = ap (λ (x : ℕ). x * 16 ^ s.lowered) num_below ∙ number_is
 
-      pub small_value : 0 < s.value → s.value ≤ 0x1000000000000000 → s.raised + 284 < e.quotient → Refused 10 ≡ exactly neg num den
+      pub small_value : 0 < s.value → s.value ≤ 0x1000000000000000 → s.raised + 284 < e.quotient → Err 10 ≡ exactly neg num den
       small_value v w g = sym (exactly_none neg num den positive_den (small_none num den positive_den some little))
         where
           some : 0 < num
@@ -214,7 +213,7 @@ module _ (s : Significand) (e : Power) (inverse neg : Bool) where
               (le_trans (mul-le-mul_left (16 ^ h.places) (pow_mono {i = 4 * (284 + s.raised)} {j = h.power} (far s.raised h.power (beyond h.power e.quotient (s.raised + 284) (counted_le e.quotient (h.power / 4) h.counts.quotient) g))))
               (le_of_eq (sym den_below))))
 
-      pub below_value : s.raised + s.lowered ≤ most_places → e.quotient ≤ s.raised + 284 → (r : Reply) → RepliesPlaced neg s.value (4 - e.remainder) s.raised (s.lowered + e.quotient + 1) r → r ≡ exactly neg num den
+      pub below_value : s.raised + s.lowered ≤ most_places → e.quotient ≤ s.raised + 284 → (r : Result ℕ ℕ) → RepliesPlaced neg s.value (4 - e.remainder) s.raised (s.lowered + e.quotient + 1) r → r ≡ exactly neg num den
       below_value p g r f =
           f num den positive_den
           (ap (λ (x : ℕ). num * x) (ap (λ (x : ℕ). 16 ^ x) (add_assoc s.lowered e.quotient 1) ∙ pow-add 16 s.lowered (e.quotient + 1))

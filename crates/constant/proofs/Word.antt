@@ -8,9 +8,9 @@ use native.Mathlib.Omega.{arith}
 use lib.Dec.{eqb}
 use lib.Pow.{pow-add, pow_pos, pow_mono, shl_lt, shr_lt}
 use borrow.Author.Tests.{eqb-true, eqb-false}
+use Rattle.std.specs.Prelude.{Ok, Err}
 use Rattle.wide.proofs.Nat.{le_or_gt}
 use Rattle.rounding.specs.Machine.{sign_bit}
-use Rattle.reply.specs.declared.Reply.TheVariants.{Refused, Bits}
 use Rattle.constant.specs.Constant.{exactly}
 use Rattle.constant.specs.Machine.{whole_bits}
 use Rattle.constant.proofs.Exactly.{Finite, exactly_bits, exactly_none}
@@ -94,17 +94,17 @@ module _ (num den m e z : ℕ) (D : 0 < den) (is : num * 2 ^ 1136 ≡ m * 2 ^ e 
             let c = crossed q k' f.is in
             r (multiple (m * 2 ^ z) q (k' + (62 + z)) e t (⊎_elim (λ g. first t k z k' h g) (λ g. le_trans (le_of_eq (ap (λ (y : ℕ). e + y) g)) (digits_apart (m * 2 ^ z) q (k' + (62 + z)) e low f.small c)) kind) c)
 
-        go : (b : Bool) → eqb (m * 2 ^ z % 2 ^ t) 0 ≡ b → cond b (Bits (sign_bit s + (k * 0x10000000000000 + m * 2 ^ z / 2 ^ t))) (Refused 10) ≡ exactly s num den
+        go : (b : Bool) → eqb (m * 2 ^ z % 2 ^ t) 0 ≡ b → cond b (Ok (sign_bit s + (k * 0x10000000000000 + m * 2 ^ z / 2 ^ t))) (Err 10) ≡ exactly s num den
         go true r = sym (exactly_bits s num den (m * 2 ^ z / 2 ^ t) k D (whole (eqb-true (m * 2 ^ z % 2 ^ t) 0 r)))
         go false r = sym (exactly_none s num den D (none (eqb-false (m * 2 ^ z % 2 ^ t) 0 r)))
 
-    pub word_large : (s : Bool) → z + 2097 ≤ e → Refused 10 ≡ exactly s num den
+    pub word_large : (s : Bool) → z + 2097 ≤ e → Err 10 ≡ exactly s num den
     word_large s g = sym (exactly_none s num den D (λ q k f. not-le_of_lt (lt_of_lt_of_le (shl_lt 53 (k + (62 + z)) f.small) (le_trans (pow_mono {i = 53 + (k + (62 + z))} {j = 63 + e} (more k z f.most g)) (le_trans (le_of_eq (pow-add 2 63 e)) (mul-le-mul_right (2 ^ e) low)))) (le_of_eq (sym (crossed q k f.is)))))
       where
         more : (k z : ℕ) → k ≤ 2045 → z + 2097 ≤ e → 53 + (k + (62 + z)) ≤ 63 + e
         more k z a b = omega arith
 
-    pub word_small : (s : Bool) → e + 64 ≤ z + 62 → Refused 10 ≡ exactly s num den
+    pub word_small : (s : Bool) → e + 64 ≤ z + 62 → Err 10 ≡ exactly s num den
     word_small s g = sym (exactly_none s num den D (λ q k f. zero (m * 2 ^ z) low (sym (mod-eq_of_lt high) ∙ multiple (m * 2 ^ z) q (k + (62 + z)) e 64 (more k z g) (crossed q k f.is))))
       where
         more : (k z : ℕ) → e + 64 ≤ z + 62 → e + 64 ≤ k + (62 + z)

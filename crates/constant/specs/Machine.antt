@@ -1,17 +1,22 @@
 -- What the functions of this crate say of each other: what is kept of a text that has been read in part. Nothing here is part of what a
 -- reply means. Definitions only.
-use Rattle.std.specs.Prelude.{ℕ, ◌+◌, ◌*◌, ◌/◌, ◌%◌, ◌^◌, ◌≤◌, ◌<◌, ◌≡◌, ◌⊎◌, Bool, true, false, cond, List, [], ◌∷◌, ltb, eqb}
+use Rattle.std.specs.Prelude.{ℕ, ◌+◌, ◌*◌, ◌/◌, ◌%◌, ◌^◌, ◌≤◌, ◌<◌, ◌≡◌, ◌⊎◌, Bool, true, false, cond, List, [], ◌∷◌, ltb, eqb, Result, Ok, Err}
 use Rattle.rounding.specs.Machine.{sign_bit}
 use Rattle.hexadecimal.specs.Text.{digit_of}
 use Rattle.hexadecimal.specs.Test.{next_stage, is_last}
 use Rattle.hexadecimal.specs.declared.Stage.{Stage}
 use Rattle.hexadecimal.specs.declared.Stage.TheVariants.{Start, Signed, Zero, Prefix, Whole, LonePoint, Point, Fraction, P, ExponentSigned, Exponent, Malformed}
-use Rattle.reply.specs.declared.Reply.{Reply}
-use Rattle.reply.specs.declared.Reply.TheVariants.{Refused, Bits}
+use Rattle.constant.specs.declared.ConstantError.{ConstantError}
+use Rattle.constant.specs.declared.ConstantError.TheVariants.{BadText, Inexact}
 use Rattle.constant.specs.declared.Significand.{Significand}
 use Rattle.constant.specs.declared.Power.{Power}
 use Rattle.constant.specs.declared.Reading.{Reading}
 use Rattle.constant.specs.Constant.{exactly}
+
+-- an error's number
+abbrev pub refusal_of : ConstantError → ℕ
+refusal_of BadText = 9
+refusal_of Inexact = 10
 
 -- ---- one more byte
 
@@ -105,20 +110,20 @@ pub record Holds (s : Significand) (e : Power) (inverse : Bool) (num den : ℕ) 
   pub den_is : den ≡ 16 ^ places * cond inverse (2 ^ power) 1
 
 -- r is the reply to a reading
-pub record Finishes (reading : Reading) (r : Reply) : Type 0 where
-  pub malformed : is_last reading.stage ≡ false → r ≡ Refused 9
+pub record Finishes (reading : Reading) (r : Result ℕ ℕ) : Type 0 where
+  pub malformed : is_last reading.stage ≡ false → r ≡ Err 9
   pub value : is_last reading.stage ≡ true → (num den : ℕ) → Holds reading.significand reading.power reading.inverse num den → r ≡ exactly reading.negative num den
 
 -- ---- numbers with an exponent
 
 -- the reply whose pattern is that of w / 2 ^ s times 2 ^ k, where that is a whole number
-abbrev pub whole_bits : Bool → ℕ → ℕ → ℕ → Reply
-whole_bits neg w k s = cond (eqb (w % 2 ^ s) 0) (Bits (sign_bit neg + (k * 0x10000000000000 + w / 2 ^ s))) (Refused 10)
+abbrev pub whole_bits : Bool → ℕ → ℕ → ℕ → Result ℕ ℕ
+whole_bits neg w k s = cond (eqb (w % 2 ^ s) 0) (Ok (sign_bit neg + (k * 0x10000000000000 + w / 2 ^ s))) (Err 10)
 
 -- r is the reply to m * 2 ^ e in units of 2 ^ -1136
-abbrev pub RepliesBits : Bool → ℕ → ℕ → Reply → Type 0
+abbrev pub RepliesBits : Bool → ℕ → ℕ → Result ℕ ℕ → Type 0
 RepliesBits s m e r = (num den : ℕ) → 0 < den → num * 2 ^ 1136 ≡ m * 2 ^ e * den → r ≡ exactly s num den
 
 -- r is the reply to m * 2 ^ t * 16 ^ above / 16 ^ below
-abbrev pub RepliesPlaced : Bool → ℕ → ℕ → ℕ → ℕ → Reply → Type 0
+abbrev pub RepliesPlaced : Bool → ℕ → ℕ → ℕ → ℕ → Result ℕ ℕ → Type 0
 RepliesPlaced s m t above below r = (num den : ℕ) → 0 < den → num * 16 ^ below ≡ m * 2 ^ t * 16 ^ above * den → r ≡ exactly s num den

@@ -5,18 +5,41 @@
 #![tactic(auto)]
 
 ghost use Rattle.std.specs.Prelude.{◌≡◌, ℕ, ◌+◌, ◌-◌, ◌≤◌, ◌<◌, length};
+ghost use Rattle.std.proofs.Common.{rules};
+ghost use Rattle.reply.specs.Told.{numbered};
 ghost use Rattle.constant.specs.Constant.{exactly, constant_of};
-ghost use Rattle.constant.specs.Machine.{with_digit, with_decimal, pushed, read_from, unread, Within, most_places, Holds, Finishes, whole_bits, RepliesBits, RepliesPlaced};
+ghost use Rattle.constant.specs.Machine.{refusal_of, with_digit, with_decimal, pushed, read_from, unread, Within, most_places, Holds, Finishes, whole_bits, RepliesBits, RepliesPlaced};
 
-use hexadecimal::Stage;
-use reply::Reply;
+use hexadecimal::{Stage, digit};
+use reply::Refusal;
 use rounding::{LEADING, sign_bit};
 
-// The text has not the form.
-const BAD_TEXT: u8 = 9;
+// Why a text stands for no float.
+#[derive(Clone, Copy, Debug, PartialEq, Eq)]
+pub enum ConstantError {
+    // The text has not the form.
+    BadText = 9,
+    // The value is not exactly a finite binary64.
+    Inexact = 10,
+}
 
-// The value is not exactly a finite binary64.
-const INEXACT: u8 = 10;
+impl Refusal for ConstantError {
+    ghost number = { refusal_of };
+
+    ghost counts = { Prim.search rules };
+
+    fn number(self) -> u8 {
+        self as u8
+    }
+}
+
+// Below it there is room for one more digit in 60 bits.
+const ROOM: u64 = 0x100000000000000;
+
+const MOST: u64 = 18446744073709551610;
+
+// Below it ten times a quotient is below MOST.
+const MOST_TENTH: u64 = 1844674407370955161;
 
 // A number's leading digits: it is value * 16^raised / 16^lowered, and a little more where a digit other than 0 is lost, which is then kept
 // in lost. Here and in a Power there are words alone: a smaller field would have padding behind it, and each byte of a text would copy it.
@@ -28,6 +51,25 @@ pub struct Significand {
     pub lost: u64,
 }
 
+impl Significand {
+    // One more digit, before or after the point.
+    #[tactic(auto, unfolding(crate::specs::Machine::with_digit))]
+    fn push(&mut self, digit: u32, after: bool)
+        requires { (digit < 16) × (self.old.raised + self.old.lowered < most_places) }
+        ensures { self.new ≡ with_digit self.old digit after }
+    {
+        if self.value < ROOM {
+            self.value = self.value * 16 + u64::from(digit);
+            self.lowered += u64::from(after);
+        } else {
+            self.raised += u64::from(!after);
+            if digit != 0 {
+                self.lost = u64::from(digit);
+            }
+        }
+    }
+}
+
 // An exponent, as 4 * quotient + remainder: four times a place of a long text would not fit a word. A quotient beyond MOST stays there.
 #[derive(Clone, Copy)]
 pub struct Power {
@@ -35,6 +77,24 @@ pub struct Power {
     pub remainder: u64,
 }
 
+impl Power {
+    // One more decimal digit.
+    #[tactic(auto, unfolding(crate::specs::Machine::with_decimal))]
+    fn push(&mut self, digit: u32)
+        requires { (digit < 16) × (self.old.remainder ≤ 3) }
+        ensures { self.new ≡ with_decimal self.old digit }
+    {
+        let rest = self.remainder * 10 + u64::from(digit);
+        self.quotient = if self.quotient < MOST_TENTH {
+            self.quotient * 10 + rest / 4
+        } else {
+            MOST
+        };
+        self.remainder = rest % 4;
+    }
+}
+
+// What has been read of a text.
 #[derive(Clone, Copy)]
 pub struct Reading {
     pub stage: Stage,
@@ -45,180 +105,135 @@ pub struct Reading {
     pub power: Power,
 }
 
-// Below it there is room for one more digit in 60 bits.
-const ROOM: u64 = 0x100000000000000;
-
-const MOST: u64 = 18446744073709551610;
-
-// Below it ten times a quotient is below MOST.
-const MOST_TENTH: u64 = 1844674407370955161;
-
-fn with_digit(s: Significand, digit: u64, after: bool) -> Significand
-    requires { (digit ≤ 16) × (s.raised + s.lowered < most_places) }
-    ensures { result ≡ with_digit s digit after }
-{
-    if s.value < ROOM {
-        Significand {
-            value: s.value * 16 + digit,
-            raised: s.raised,
-            lowered: wide::pick_word(after, s.lowered + 1, s.lowered),
-            lost: s.lost,
-        }
-    } else {
-        Significand {
-            value: s.value,
-            raised: wide::pick_word(after, s.raised, s.raised + 1),
-            lowered: s.lowered,
-            lost: wide::pick_word(digit == 0, s.lost, digit),
+impl Reading {
+    // Before the first byte.
+    pub fn fresh() -> Self
+        ensures { result ≡ unread }
+    {
+        Reading {
+            stage: Stage::Start,
+            negative: false,
+            inverse: false,
+            significand: Significand {
+                value: 0,
+                raised: 0,
+                lowered: 0,
+                lost: 0,
+            },
+            power: Power {
+                quotient: 0,
+                remainder: 0,
+            },
         }
     }
-}
 
-fn with_decimal(e: Power, digit: u64) -> Power
-    requires { (digit ≤ 16) × (e.remainder ≤ 3) }
-    ensures { result ≡ with_decimal e digit }
-{
-    let rest = e.remainder * 10 + digit;
-    let remainder = rest % 4;
-    if e.quotient < MOST_TENTH {
-        Power {
-            quotient: e.quotient * 10 + rest / 4,
+    #[tactic(auto, unfolding(crate::specs::Machine::pushed, crate::specs::Machine::moved_to))]
+    fn push(&mut self, b: u8)
+        requires { Within (most_places - 1) self.old }
+        ensures { self.new ≡ pushed self.old b }
+    {
+        self.stage = self.stage.next(b);
+        match self.stage {
+            Stage::Signed => self.negative = b == b'-',
+            Stage::Whole => self.significand.push(digit(b).unwrap(), false),
+            Stage::Fraction => self.significand.push(digit(b).unwrap(), true),
+            Stage::ExponentSigned => self.inverse = b == b'-',
+            Stage::Exponent => self.power.push(digit(b).unwrap()),
+            _ => {}
+        }
+    }
+
+    // Reads the next piece of a text.
+    pub fn read_on(mut self, piece: &[u8]) -> Self
+        requires { Within (most_places - length piece.now) self }
+        ensures { result ≡ read_from self piece.now }
+    {
+        for b in piece {
+            self.push(*b);
+        }
+        self
+    }
+
+    // The float whose sign and size these are. -(4 * q + r) is 4 * -(q + 1) + (4 - r).
+    fn value(self) -> Result<u64, ConstantError>
+        requires { Within most_places self }
+        ensures { (num den : ℕ) → Holds self.significand self.power self.inverse num den → numbered refusal_of result ≡ exactly self.negative num den }
+    {
+        let Significand {
+            value,
+            raised,
+            lowered,
+            lost,
+        } = self.significand;
+        let Power {
+            quotient,
             remainder,
+        } = self.power;
+        if value == 0 {
+            return Ok(sign_bit(self.negative));
         }
-    } else {
-        Power {
-            quotient: MOST,
-            remainder,
+        if lost != 0 {
+            return Err(ConstantError::Inexact);
+        }
+        if self.inverse {
+            if raised + LOWEST < quotient {
+                return Err(ConstantError::Inexact);
+            }
+            return placed(
+                self.negative,
+                value,
+                4 - remainder,
+                raised,
+                lowered + quotient + 1,
+            );
+        }
+        if lowered + HIGHEST < quotient {
+            return Err(ConstantError::Inexact);
+        }
+        placed(self.negative, value, remainder, raised + quotient, lowered)
+    }
+
+    // The reply to the text that has been read.
+    pub fn finish(self) -> Result<u64, ConstantError>
+        requires { Within most_places self }
+        ensures { Finishes self (numbered refusal_of result) }
+    {
+        if self.stage.is_last() {
+            self.value()
+        } else {
+            Err(ConstantError::BadText)
         }
     }
 }
 
-// Before the first byte.
-pub fn fresh() -> Reading
-    ensures { result ≡ unread }
-{
-    Reading {
-        stage: Stage::Start,
-        negative: false,
-        inverse: false,
-        significand: Significand {
-            value: 0,
-            raised: 0,
-            lowered: 0,
-            lost: 0,
-        },
-        power: Power {
-            quotient: 0,
-            remainder: 0,
-        },
-    }
-}
-
-fn push(reading: Reading, b: u8) -> Reading
-    requires { Within (most_places - 1) reading }
-    ensures { result ≡ pushed reading b }
-{
-    let before = reading.stage;
-    let stage = hexadecimal::next(before, b);
-    let negative = reading.negative;
-    let inverse = reading.inverse;
-    let significand = reading.significand;
-    let power = reading.power;
-    let moved = Reading {
-        stage,
-        negative,
-        inverse,
-        significand,
-        power,
-    };
-    match stage {
-        Stage::Start => moved,
-        Stage::Signed => Reading {
-            stage,
-            negative: b == b'-',
-            inverse,
-            significand,
-            power,
-        },
-        Stage::Zero => moved,
-        Stage::Prefix => moved,
-        Stage::Whole => Reading {
-            stage,
-            negative,
-            inverse,
-            significand: with_digit(significand, hexadecimal::digit(b), false),
-            power,
-        },
-        Stage::LonePoint => moved,
-        Stage::Point => moved,
-        Stage::Fraction => Reading {
-            stage,
-            negative,
-            inverse,
-            significand: with_digit(significand, hexadecimal::digit(b), true),
-            power,
-        },
-        Stage::P => moved,
-        Stage::ExponentSigned => Reading {
-            stage,
-            negative,
-            inverse: b == b'-',
-            significand,
-            power,
-        },
-        Stage::Exponent => Reading {
-            stage,
-            negative,
-            inverse,
-            significand,
-            power: with_decimal(power, hexadecimal::digit(b)),
-        },
-        Stage::Malformed => moved,
-    }
-}
-
-// Reads the next piece of a text.
-pub fn read_on(reading: Reading, piece: &[u8]) -> Reading
-    requires { Within (most_places - length piece.now) reading }
-    ensures { result ≡ read_from reading piece.now }
-{
-    let mut reading = reading;
-    let mut i = 0;
-    while i < piece.len() {
-        reading = push(reading, piece[i]);
-        i += 1;
-    }
-    reading
-}
-
-fn whole_bits(negative: bool, w: u64, k: u64, s: u64) -> Reply
+fn whole_bits(negative: bool, w: u64, k: u64, s: u64) -> Result<u64, ConstantError>
     requires { (k ≤ 2045) × (11 ≤ s) × (s ≤ 63) }
-    ensures { result ≡ whole_bits negative w k s }
+    ensures { numbered refusal_of result ≡ whole_bits negative w k s }
 {
     if w % (1 << s) == 0 {
-        Reply::Bits(sign_bit(negative) + (k * LEADING + (w >> s)))
+        Ok(sign_bit(negative) + (k * LEADING + (w >> s)))
     } else {
-        Reply::Refused(INEXACT)
+        Err(ConstantError::Inexact)
     }
 }
 
 // m * 2^e in units of 2^-1136. Its digits fill a word, w. A normal number has 53 of them, and a subnormal one ends at 2^-1074.
-fn exact_bits(negative: bool, m: u64, e: u64) -> Reply
+fn exact_bits(negative: bool, m: u64, e: u64) -> Result<u64, ConstantError>
     requires { (0 < m) × (e ≤ 2164) }
-    ensures { RepliesBits negative m e result }
+    ensures { RepliesBits negative m e (numbered refusal_of result) }
 {
     let z = u64::leading_zeros(m) as u64;
     let w = m << z;
     if z + 51 <= e {
         let k = e - z - 51;
         if 2045 < k {
-            return Reply::Refused(INEXACT);
+            return Err(ConstantError::Inexact);
         }
         return whole_bits(negative, w, k, 11);
     }
     let s = z + 62 - e;
     if 63 < s {
-        return Reply::Refused(INEXACT);
+        return Err(ConstantError::Inexact);
     }
     whole_bits(negative, w, 0, s)
 }
@@ -229,71 +244,21 @@ const LOWEST: u64 = 284;
 const HIGHEST: u64 = 256;
 
 // m * 2^t * 16^above / 16^below.
-fn placed(negative: bool, m: u64, t: u64, above: u64, below: u64) -> Reply
+fn placed(negative: bool, m: u64, t: u64, above: u64, below: u64) -> Result<u64, ConstantError>
     requires { (0 < m) × (m ≤ 0x1000000000000000) × (t ≤ 4) × (above ≤ most_places + 300) × (below ≤ most_places + 300) }
-    ensures { RepliesPlaced negative m t above below result }
+    ensures { RepliesPlaced negative m t above below (numbered refusal_of result) }
 {
     if above + LOWEST < below {
-        return Reply::Refused(INEXACT);
+        return Err(ConstantError::Inexact);
     }
     if below + HIGHEST < above {
-        return Reply::Refused(INEXACT);
+        return Err(ConstantError::Inexact);
     }
     exact_bits(negative, m, 4 * (above + LOWEST - below) + t)
 }
 
-// The float whose sign and size are these. -(4 * q + r) is 4 * -(q + 1) + (4 - r).
-fn valued(negative: bool, inverse: bool, significand: Significand, power: Power) -> Reply
-    requires { (significand.raised + significand.lowered ≤ most_places) × (significand.value ≤ 0x1000000000000000) × (power.remainder ≤ 3) }
-    ensures { (num den : ℕ) → Holds significand power inverse num den → result ≡ exactly negative num den }
+pub fn constant(text: &[u8]) -> Result<u64, ConstantError>
+    ensures { numbered refusal_of result ≡ constant_of text.now }
 {
-    let value = significand.value;
-    let raised = significand.raised;
-    let lowered = significand.lowered;
-    let lost = significand.lost;
-    let quotient = power.quotient;
-    let remainder = power.remainder;
-    if value == 0 {
-        return Reply::Bits(sign_bit(negative));
-    }
-    if lost != 0 {
-        return Reply::Refused(INEXACT);
-    }
-    if inverse {
-        if raised + LOWEST < quotient {
-            return Reply::Refused(INEXACT);
-        }
-        return placed(
-            negative,
-            value,
-            4 - remainder,
-            raised,
-            lowered + quotient + 1,
-        );
-    }
-    if lowered + HIGHEST < quotient {
-        return Reply::Refused(INEXACT);
-    }
-    placed(negative, value, remainder, raised + quotient, lowered)
-}
-
-// The reply to the text that has been read.
-pub fn finish(reading: Reading) -> Reply
-    requires { Within most_places reading }
-    ensures { Finishes reading result }
-{
-    let stage = reading.stage;
-    let significand = reading.significand;
-    let power = reading.power;
-    if hexadecimal::is_last(stage) {
-        valued(reading.negative, reading.inverse, significand, power)
-    } else {
-        Reply::Refused(BAD_TEXT)
-    }
-}
-
-pub fn constant(text: &[u8]) -> Reply
-    ensures { result ≡ constant_of text.now }
-{
-    finish(read_on(fresh(), text))
+    Reading::fresh().read_on(text).finish()
 }

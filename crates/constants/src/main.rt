@@ -5,157 +5,81 @@
 // on standard error.
 #![tactic(auto)]
 
-ghost use Rattle.std.specs.Prelude.{ℕ, ◌+◌, ◌-◌, ◌≤◌, length};
+ghost use Rattle.std.specs.Prelude.{ℕ, ◌+◌, ◌-◌, length, IfSome, IfOk};
 ghost use Rattle.constant.specs.Machine.{Within, most_places};
 
-use constant::Reading;
-use reply::Reply;
+use constant::{ConstantError, Reading};
+use reply::Refusal;
+use std::io;
+use std::io::{Read, Write};
 
-// Where the line that starts at `from` ends, or else the piece.
-fn line_end(piece: &[u8], from: usize) -> usize
-    requires { from ≤ length piece.now }
-    ensures { (from ≤ result) × (result ≤ length piece.now) }
+// Why the program ends before its input does.
+enum Failure {
+    Input(io::Error),
+    Output(io::Error),
+}
+
+// Writes a reply's line.
+fn write_reply<P: Print>(rt: &P, reply: Result<u64, ConstantError>) -> io::Result<()> {
+    let mut space = [0u8; 19];
+    let mut rest: &mut [u8] = &mut space;
+    let _ = match reply {
+        Ok(bits) => writeln!(rest, "0x{bits:016x}"),
+        Err(error) => writeln!(rest, "refused {}", error.number()),
+    };
+    let left = rest.len();
+    let end = space.len().saturating_sub(left);
+    stdio::write_out(rt, &space[..end])
+}
+
+// Reads a piece of the input, and writes the replies to the lines that end in it. A line is what has been read of it, once it has a byte.
+fn read_lines<P: Print>(rt: &P, line: Option<Reading>, piece: &[u8]) -> io::Result<Option<Reading>>
+    requires { IfSome line (Within (most_places - length piece.now)) }
+    ensures { (n : ℕ) → IfSome line (Within n) → IfOk result (λ next. IfSome next (Within (n + length piece.now))) }
 {
-    match piece[from..].iter().position(|b| *b == b'\n') {
-        Some(i) => from + i,
-        None => piece.len(),
+    let mut line = line;
+    let mut rest = piece;
+    while let Some(end) = rest.iter().position(|b| *b == b'\n') {
+        let reading = line.unwrap_or(Reading::fresh()).read_on(&rest[..end]);
+        write_reply(rt, reading.finish())?;
+        line = None;
+        rest = &rest[end + 1..];
     }
-}
-
-fn glyph(digit: u64) -> u8
-    requires { digit ≤ 15 }
-{
-    if digit < 10 {
-        (48 + digit) as u8
-    } else {
-        (87 + digit) as u8
+    if !rest.is_empty() {
+        line = Some(line.unwrap_or(Reading::fresh()).read_on(rest));
     }
-}
-
-// Writes a line; false where the output takes no more, of which standard error gets a line.
-fn write_line<P: Print + Eprint>(rt: &P, line: &[u8]) -> bool {
-    match stdio::write_out(rt, line) {
-        Ok(()) => true,
-        Err(error) => {
-            stdio::output_failed(rt, error);
-            false
-        }
-    }
-}
-
-fn write_pattern<P: Print + Eprint>(rt: &P, bits: u64) -> bool {
-    let mut line = *b"0x................\n";
-    let mut rest = bits;
-    let mut i = 18;
-    while 2 < i {
-        i -= 1;
-        line[i] = glyph(rest % 16);
-        rest = rest / 16;
-    }
-    write_line(rt, &line)
-}
-
-// A refusal's number has two digits at most.
-fn write_refusal<P: Print + Eprint>(rt: &P, number: u8) -> bool {
-    let mut line = *b"refused 00\n";
-    let units = glyph((number % 10) as u64);
-    if number < 10 {
-        line[8] = units;
-        line[9] = b'\n';
-        return write_line(rt, &line[..10]);
-    }
-    line[8] = glyph((number / 10 % 10) as u64);
-    line[9] = units;
-    write_line(rt, &line)
-}
-
-// Writes a reply's line; false where the output takes no more.
-fn write_reply<P: Print + Eprint>(rt: &P, reply: Reply) -> bool {
-    match reply {
-        Reply::Refused(number) => write_refusal(rt, number),
-        Reply::Bits(bits) => write_pattern(rt, bits),
-    }
-}
-
-// What has been read of the present line, whether that is any byte, and whether the output still takes bytes.
-#[derive(Clone, Copy)]
-struct Progress {
-    reading: Reading,
-    begun: bool,
-    open: bool,
-}
-
-// Reads a piece of the input, and writes the replies to the lines that end in it.
-fn read_lines<P: Print + Eprint>(rt: &P, reading: Reading, begun: bool, piece: &[u8]) -> Progress
-    requires { Within (most_places - length piece.now) reading }
-    ensures { (n : ℕ) → Within n reading → Within (n + length piece.now) result.reading }
-{
-    let mut reading = reading;
-    let mut begun = begun;
-    let mut at = 0;
-    while at < piece.len() {
-        let end = line_end(piece, at);
-        reading = constant::read_on(reading, &piece[at..end]);
-        if end == piece.len() {
-            return Progress {
-                reading,
-                begun: true,
-                open: true,
-            };
-        }
-        if !write_reply(rt, constant::finish(reading)) {
-            return Progress {
-                reading,
-                begun: true,
-                open: false,
-            };
-        }
-        reading = constant::fresh();
-        begun = false;
-        at = end + 1;
-    }
-    Progress {
-        reading,
-        begun,
-        open: true,
-    }
+    Ok(line)
 }
 
 // The end of the input: what has been read of a line is a line.
-fn finish<P: Print + Eprint>(rt: &P, reading: Reading, begun: bool)
-    requires { Within most_places reading }
+fn finish<P: Print>(rt: &P, line: Option<Reading>) -> io::Result<()>
+    requires { IfSome line (Within most_places) }
 {
-    if begun {
-        write_reply(rt, constant::finish(reading));
+    match line {
+        Some(reading) => write_reply(rt, reading.finish()),
+        None => Ok(()),
     }
 }
 
-fn main(rt: HostRuntime) {
-    let mut input = rt.stdin();
+// Reads the input to its end.
+fn run<R: Read, P: Print>(input: &mut R, rt: &P) -> Result<(), Failure> {
     let mut piece = [0u8; 65536];
-    let mut reading = constant::fresh();
-    let mut begun = false;
+    let mut line = None;
     // So many reads of 65,536 bytes are 2^63 bytes: more than come in a machine's life.
-    let mut turns = 0x800000000000u64;
-    while turns > 0 {
-        match stdio::read_some(&mut input, &mut piece) {
-            Ok(0) => {
-                finish(&rt, reading, begun);
-                return;
-            }
-            Ok(got) => {
-                let progress = read_lines(&rt, reading, begun, &piece[..got]);
-                reading = progress.reading;
-                begun = progress.begun;
-                if !progress.open {
-                    return;
-                }
-            }
-            Err(error) => {
-                stdio::input_failed(&rt, error);
-                return;
-            }
+    for _ in 0..0x800000000000u64 {
+        let got = stdio::read_some(input, &mut piece).map_err(Failure::Input)?;
+        if got == 0 {
+            return finish(rt, line).map_err(Failure::Output);
         }
-        turns -= 1;
+        line = read_lines(rt, line, &piece[..got]).map_err(Failure::Output)?;
+    }
+    Ok(())
+}
+
+fn main(rt: HostRuntime) {
+    match run(&mut rt.stdin(), &rt) {
+        Ok(()) => {}
+        Err(Failure::Input(error)) => stdio::input_failed(&rt, error),
+        Err(Failure::Output(error)) => stdio::output_failed(&rt, error),
     }
 }

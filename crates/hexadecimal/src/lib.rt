@@ -28,12 +28,14 @@ pub enum Stage {
     Malformed,
 }
 
-// The value of a digit.
+// The value of a digit. A letter is 64 and more, and its last four bits count from 1 on: no digit's value asks which of the two it is, since a
+// text may have them in any order.
 #[tactic(auto, unfolding(crate::specs::Text::digit_of))]
 pub fn digit(b: u8) -> Option<u32>
     ensures { SomeIff result (digit_of b < 16) (digit_of b) }
 {
-    char::from(b).to_digit(16)
+    b.is_ascii_hexdigit()
+        .then_some(u32::from(b % 16 + b / 64 * 9))
 }
 
 impl Stage {
@@ -42,17 +44,15 @@ impl Stage {
     pub fn next(self, b: u8) -> Stage
         ensures { result ≡ next_stage self b }
     {
+        let digit = b.is_ascii_hexdigit();
         match (self, b) {
             (Stage::Start, b'+' | b'-') => Stage::Signed,
             (Stage::Start | Stage::Signed, b'0') => Stage::Zero,
             (Stage::Zero, b'x' | b'X') => Stage::Prefix,
-            (Stage::Prefix | Stage::Whole, b'0'..=b'9' | b'A'..=b'F' | b'a'..=b'f') => Stage::Whole,
+            (Stage::Prefix | Stage::Whole, _) if digit => Stage::Whole,
             (Stage::Prefix, b'.') => Stage::LonePoint,
             (Stage::Whole, b'.') => Stage::Point,
-            (
-                Stage::LonePoint | Stage::Point | Stage::Fraction,
-                b'0'..=b'9' | b'A'..=b'F' | b'a'..=b'f',
-            ) => Stage::Fraction,
+            (Stage::LonePoint | Stage::Point | Stage::Fraction, _) if digit => Stage::Fraction,
             (Stage::Whole | Stage::Point | Stage::Fraction, b'p' | b'P') => Stage::P,
             (Stage::P, b'+' | b'-') => Stage::ExponentSigned,
             (Stage::P | Stage::ExponentSigned | Stage::Exponent, b'0'..=b'9') => Stage::Exponent,

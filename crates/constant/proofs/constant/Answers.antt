@@ -5,7 +5,8 @@ use mathlib.Core.List.{List}
 use native.Mathlib.Omega.{arith}
 use lib.ListN.{length}
 use Rattle.constant.specs.declared.Reading.{Reading}
-use Rattle.constant.specs.Machine.{Within, most_places, read_from, unread, Finishes}
+use Rattle.reply.specs.Told.{numbered}
+use Rattle.constant.specs.Machine.{refusal_of, Within, most_places, read_from, unread, Finishes}
 use Rattle.constant.proofs.Kept.{within_le, within_read, within_unread}
 use Rattle.constant.proofs.Replies.{read_reply}
 use Rattle.constant.proofs.constant.Goals as goal
@@ -26,4 +27,4 @@ pub finish-requires : goal.finish-requires
 finish-requires c = within _ _ (read _ _ _ c.fresh.ensures c.read_on.ensures) (omega arith)
 
 pub returns : goal.returns
-returns c = read_reply _ _ (subst (λ (r : Reading). Finishes r c.finish.result) (read _ _ _ c.fresh.ensures c.read_on.ensures) c.finish.ensures)
+returns c = read_reply _ _ (subst (λ (r : Reading). Finishes r (numbered refusal_of c.finish.result)) (read _ _ _ c.fresh.ensures c.read_on.ensures) c.finish.ensures)

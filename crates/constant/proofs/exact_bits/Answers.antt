@@ -6,9 +6,8 @@ use Prim.Native.Nat.{ℕ, ◌+◌, ◌-◌, ◌*◌, ◌%◌, ◌^◌, ◌≤◌
 use native.Mathlib.Nat.{mod-eq_of_lt}
 use native.Mathlib.Omega.{arith}
 use lib.Count.{count_leading_zeros}
+use Rattle.std.specs.Prelude.{Result, Err}
 use Rattle.rounding.proofs.Leading.{Leads, leads}
-use Rattle.reply.specs.declared.Reply.{Reply}
-use Rattle.reply.specs.declared.Reply.TheVariants.{Refused}
 use Rattle.constant.specs.Machine.{whole_bits, RepliesBits}
 use Rattle.constant.proofs.Word.{word_bits, word_large, word_small}
 use Rattle.constant.proofs.exact_bits.Goals as goal
@@ -17,16 +16,16 @@ use Rattle.constant.proofs.exact_bits.Goals.{Start}
 word : (s : Start) → Leads s.args.m (count_leading_zeros 64 s.args.m)
 word s = leads s.args.m s.requires.0 s.well_formed.1.0.1
 
-normal : (s : Bool) (m e z : ℕ) {r : Reply} → Leads m z → z + 51 ≤ e → e - z - 51 ≤ 2045 → r ≡ whole_bits s (m * 2 ^ z % 2 ^ 64) (e - z - 51) 11 → RepliesBits s m e r
+normal : (s : Bool) (m e z : ℕ) {r : Result ℕ ℕ} → Leads m z → z + 51 ≤ e → e - z - 51 ≤ 2045 → r ≡ whole_bits s (m * 2 ^ z % 2 ^ 64) (e - z - 51) 11 → RepliesBits s m e r
 normal s m e z l h k f num den D is = f ∙ ap (λ (w : ℕ). whole_bits s w (e - z - 51) 11) (mod-eq_of_lt l.high) ∙ word_bits num den m e z D is l.low l.high s (e - z - 51) 11 (omega arith) (omega arith) k (inr refl)
 
-subnormal : (s : Bool) (m e z : ℕ) {r : Reply} → Leads m z → e < z + 51 → r ≡ whole_bits s (m * 2 ^ z % 2 ^ 64) 0 (z + 62 - e) → RepliesBits s m e r
+subnormal : (s : Bool) (m e z : ℕ) {r : Result ℕ ℕ} → Leads m z → e < z + 51 → r ≡ whole_bits s (m * 2 ^ z % 2 ^ 64) 0 (z + 62 - e) → RepliesBits s m e r
 subnormal s m e z l h f num den D is = f ∙ ap (λ (w : ℕ). whole_bits s w 0 (z + 62 - e)) (mod-eq_of_lt l.high) ∙ word_bits num den m e z D is l.low l.high s 0 (z + 62 - e) (omega arith) (omega arith) (omega arith) (inl refl)
 
-large : (s : Bool) (m e z : ℕ) → Leads m z → 2045 < e - z - 51 → RepliesBits s m e (Refused 10)
+large : (s : Bool) (m e z : ℕ) → Leads m z → 2045 < e - z - 51 → RepliesBits s m e (Err 10)
 large s m e z l h num den D is = word_large num den m e z D is l.low l.high s (omega arith)
 
-small : (s : Bool) (m e z : ℕ) → Leads m z → e < z + 51 → 63 < z + 62 - e → RepliesBits s m e (Refused 10)
+small : (s : Bool) (m e z : ℕ) → Leads m z → e < z + 51 → 63 < z + 62 - e → RepliesBits s m e (Err 10)
 small s m e z l h k num den D is = word_small num den m e z D is l.low l.high s (omega arith)
 
 pub overflow_cast-z : goal.overflow_cast-z

@@ -1,11 +1,10 @@
 -- `constants::read_lines` meets its contract: no more places are counted than bytes of the piece are read. Assumes nothing.
-use Prim.Native.Nat.{ℕ, ◌+◌, ◌-◌, ◌≤◌}
-use lib.ListN.{length}
+use Rattle.std.proofs.Common.{ℕ, ◌+◌, ◌-◌, ◌≤◌, length, IfSome}
 use Rattle.constant.specs.Machine.{Within}
 use Rattle.constants.proofs.read_lines.Given as goal
 
-abbrev pub invariant-loop-at : goal.invariant-loop-at
-invariant-loop-at g l = (l.at ≤ length l.piece) × ((n : ℕ) → Within n l.initial.reading → Within (n + l.at) l.reading)
+abbrev pub invariant-loop-end : goal.invariant-loop-end
+invariant-loop-end g l = (length l.rest ≤ length l.piece) × ((n : ℕ) → IfSome l.initial.line (Within n) → IfSome l.line (Within (n + (length l.piece - length l.rest))))
 
-abbrev pub decreases-loop-at : goal.decreases-loop-at
-decreases-loop-at g l = length l.piece - l.at
+abbrev pub decreases-loop-end : goal.decreases-loop-end
+decreases-loop-end g l = length l.rest
