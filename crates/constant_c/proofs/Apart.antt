@@ -4,24 +4,23 @@ use mathlib.Core.Path.{◌≡◌, refl}
 use mathlib.Core.Logic.{inl, inr}
 use mathlib.Core.List.{List}
 use native.Mathlib.Omega.{arith}
+use Rattle.std.specs.Prelude.{Result, Ok, Err}
 use Rattle.hexadecimal.specs.Text.{number_from}
 use Rattle.hexadecimal.proofs.Examples.{bytes}
-use Rattle.reply.specs.declared.Reply.{Reply}
-use Rattle.reply.specs.declared.Reply.TheVariants.{Refused, Bits}
 use Rattle.constant.specs.Constant.{constant_of, Replies}
 use Rattle.constant.proofs.Replies.{settles}
 use Rattle.reply.specs.Told.{number, Apart}
 use Rattle.constant_c.specs.Told.{TellsApart}
 
-apart : (text : List ℕ) (r : Reply) → Replies text r → Apart r
-apart text (Refused n) (inl h) e = absurd (omega (arith, h.0))
-apart text (Refused n) (inr h) e = absurd (omega (arith, h.0))
-apart text (Bits b) h e = (b, refl)
+apart : (text : List ℕ) (r : Result ℕ ℕ) → Replies text r → Apart r
+apart text (Err n) (inl h) e = absurd (omega (arith, h.0))
+apart text (Err n) (inr h) e = absurd (omega (arith, h.0))
+apart text (Ok b) h e = (b, refl)
 
 pub tells_apart : TellsApart
 tells_apart text = apart text (constant_of text) (settles text).replies
 
-pub told : (b : ℕ) × (constant_of (bytes "0x1p0") ≡ Bits b)
+pub told : (b : ℕ) × (constant_of (bytes "0x1p0") ≡ Ok b)
 unfolding constant_of number_from
 told = tells_apart (bytes "0x1p0") refl
 

@@ -1,5 +1,5 @@
 -- `constants::read_lines` meets its contract. Assumes nothing.
-use Rattle.std.proofs.Common.{ℕ, ◌+◌, ◌-◌, ◌≤◌, length, arith, take, length-take}
+use Rattle.std.proofs.Common.{arith, length-take}
 use Rattle.constant.specs.Machine.{most_places}
 use Rattle.constants.proofs.Lines.{read}
 use Rattle.constants.proofs.read_lines.Goals as goal

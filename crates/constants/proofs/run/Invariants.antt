@@ -1,5 +1,5 @@
 -- `constants::run`: so many reads leave no more places counted than bytes were read. Assumes nothing.
-use Rattle.std.proofs.Common.{ℕ, ◌*◌, ◌≡◌, length, IfSome}
+use Rattle.std.proofs.Common.{◌*◌, ◌≡◌, length, IfSome}
 use Rattle.constant.specs.Machine.{Within}
 use Rattle.constants.proofs.run.Given as goal
 
