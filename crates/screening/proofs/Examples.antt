@@ -8,8 +8,7 @@ use lib.ListN.{replicate}
 use lib.Dec.{lit<}
 use Rattle.words.specs.Bytes.{number_at}
 use Rattle.screening.specs.Screening.{screened, Screens}
-use Rattle.screening.specs.declared.Screened.{Screened}
-use Rattle.screening.specs.declared.Screened.TheVariants.{Refused, Clean, Missing}
+use Rattle.std.specs.Prelude.{Option, Some, None, Result, Ok, Err}
 use Rattle.screening.proofs.First.{settles}
 
 -- ---- weights as they stand in a payload
@@ -52,50 +51,50 @@ two = minus_one ++ signalling_nan ++ infinity ++ minus_nan
 -- refusal 5 for no byte, 4, 7, 9 and 12 bytes; 'none'; the place of a NaN alone, among numbers, the first, the last; the first of two, of two
 -- that lie apart and where every weight is one
 pub replies :
-    (screened [] ≡ Refused 5)
-    × (screened (replicate 4 0) ≡ Refused 5)
-    × (screened (replicate 7 0) ≡ Refused 5)
-    × (screened (replicate 9 0) ≡ Refused 5)
-    × (screened (quiet_nan ++ replicate 4 0) ≡ Refused 5)
-    × (screened numbers ≡ Clean)
-    × (screened quiet_nan ≡ Missing 0)
-    × (screened minus_nan ≡ Missing 0)
-    × (screened signalling_nan ≡ Missing 0)
-    × (screened (minus_one ++ quiet_nan ++ infinity) ≡ Missing 1)
-    × (screened (numbers ++ minus_nan) ≡ Missing 4)
-    × (screened two ≡ Missing 1)
-    × (screened (minus_nan ++ infinity ++ quiet_nan) ≡ Missing 0)
-    × (screened (quiet_nan ++ minus_nan ++ signalling_nan) ≡ Missing 0)
+    (screened [] ≡ Err 5)
+    × (screened (replicate 4 0) ≡ Err 5)
+    × (screened (replicate 7 0) ≡ Err 5)
+    × (screened (replicate 9 0) ≡ Err 5)
+    × (screened (quiet_nan ++ replicate 4 0) ≡ Err 5)
+    × (screened numbers ≡ Ok None)
+    × (screened quiet_nan ≡ Ok (Some 0))
+    × (screened minus_nan ≡ Ok (Some 0))
+    × (screened signalling_nan ≡ Ok (Some 0))
+    × (screened (minus_one ++ quiet_nan ++ infinity) ≡ Ok (Some 1))
+    × (screened (numbers ++ minus_nan) ≡ Ok (Some 4))
+    × (screened two ≡ Ok (Some 1))
+    × (screened (minus_nan ++ infinity ++ quiet_nan) ≡ Ok (Some 0))
+    × (screened (quiet_nan ++ minus_nan ++ signalling_nan) ≡ Ok (Some 0))
 unfolding number_at screened
 replies = (refl, refl, refl, refl, refl, refl, refl, refl, refl, refl, refl, refl, refl, refl)
 
 -- what holds of the first of two NaNs, and of no NaN
-pub two_screens : Screens two (Missing 1)
+pub two_screens : Screens two (Ok (Some 1))
 unfolding number_at screened
 two_screens = (settles two).screens
 
-pub numbers_screens : Screens numbers Clean
+pub numbers_screens : Screens numbers (Ok None)
 unfolding number_at screened
 numbers_screens = (settles numbers).screens
 
-abbrev Wrong : List ℕ → Screened → Type 0
+abbrev Wrong : List ℕ → Result (Option ℕ) ℕ → Type 0
 Wrong p r = Screens p r → ⊥
 
 -- another number than 5; 5 for a payload of whole weights; 'none' or a place for another; 'none' before looking; the place of a number, before
 -- the first NaN and behind it; the place in bytes; the last NaN
 pub wrong_replies :
-    Wrong [] (Refused 6)
-    × Wrong [] (Refused 0)
-    × Wrong numbers (Refused 5)
-    × Wrong quiet_nan (Refused 5)
-    × Wrong [] Clean
-    × Wrong (quiet_nan ++ replicate 4 0) Clean
-    × Wrong (quiet_nan ++ replicate 4 0) (Missing 0)
-    × Wrong two Clean
-    × Wrong two (Missing 0)
-    × Wrong two (Missing 2)
-    × Wrong two (Missing 8)
-    × Wrong two (Missing 3)
+    Wrong [] (Err 6)
+    × Wrong [] (Err 0)
+    × Wrong numbers (Err 5)
+    × Wrong quiet_nan (Err 5)
+    × Wrong [] (Ok None)
+    × Wrong (quiet_nan ++ replicate 4 0) (Ok None)
+    × Wrong (quiet_nan ++ replicate 4 0) (Ok (Some 0))
+    × Wrong two (Ok None)
+    × Wrong two (Ok (Some 0))
+    × Wrong two (Ok (Some 2))
+    × Wrong two (Ok (Some 8))
+    × Wrong two (Ok (Some 3))
 unfolding number_at
 wrong_replies = (
   λ s. omega (arith, s.0),

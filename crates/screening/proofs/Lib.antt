@@ -1,3 +1,4 @@
+pub mod Chunks
 -- The computed reply and the documents' words.
 mod Found
 mod First

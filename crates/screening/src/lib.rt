@@ -3,53 +3,47 @@
 // The reply is screened of specs/Screening.antt, for every payload: refusal 5, or that there is no NaN, or the place of the first.
 #![tactic(auto)]
 
-ghost use Rattle.std.specs.Prelude.{◌≡◌, ◌+◌, ◌≤◌, length};
-ghost use Rattle.screening.specs.Screening.{screened, is_nan};
-ghost use Rattle.words.specs.Bytes.{number_at};
+ghost use Rattle.std.specs.Prelude.{◌≡◌, position};
+ghost use Rattle.screening.specs.Screening.{screened, number_of, numbered};
+ghost use Rattle.screening.specs.Chunks.{is_missing};
 
-#[derive(Clone, Copy)]
-pub enum Screened {
+// A payload that is empty or no whole weights.
+#[derive(Clone, Copy, Debug, PartialEq, Eq)]
+pub struct BadPayload;
+
+impl BadPayload {
     // The refusal's number.
-    Refused(u8),
-    // No weight is a NaN.
-    Clean,
-    // The place of the first weight that is a NaN, counted in weights from 0.
-    Missing(usize),
+    pub fn number(self) -> u8
+        ensures { result ≡ number_of self }
+    {
+        5
+    }
 }
-
-const WEIGHT_BYTES: usize = 8;
-
-const BAD_PAYLOAD: u8 = 5;
 
 // Twice the pattern of an infinity, without the sign.
 const TWICE_INFINITY: u64 = 0xffe0000000000000;
 
-fn is_nan_at(payload: &[u8], at: usize) -> bool
-    requires { at + 8 ≤ length payload.now }
-    ensures { result ≡ is_nan (number_at 8 payload.now at) }
+fn is_nan(weight: &[u8; 8]) -> bool
+    ensures { result ≡ is_missing weight.now }
 {
     // The shift drops the sign. With a mask in its place the compiler reads the last four bytes one by one.
-    TWICE_INFINITY < words::read_u64(payload, at) << 1
+    TWICE_INFINITY < u64::from_be_bytes(*weight) << 1
 }
 
-pub fn screening(payload: &[u8]) -> Screened
-    ensures { result ≡ screened payload.now }
+// The place of the first weight that is a NaN, counted in weights from 0, if there is one.
+fn first_missing(weights: &[[u8; 8]]) -> Option<usize>
+    ensures { result ≡ position is_missing weights.now }
 {
-    let n = payload.len();
-    if n == 0 {
-        return Screened::Refused(BAD_PAYLOAD);
+    weights.iter().position(|weight| is_nan(weight))
+}
+
+// Looks through a kind 1 payload for the first weight that is a NaN.
+pub fn screening(payload: &[u8]) -> Result<Option<usize>, BadPayload>
+    ensures { numbered result ≡ screened payload.now }
+{
+    let (weights, rest) = payload.as_chunks::<8>();
+    if weights.is_empty() || !rest.is_empty() {
+        return Err(BadPayload);
     }
-    if n % WEIGHT_BYTES != 0 {
-        return Screened::Refused(BAD_PAYLOAD);
-    }
-    let mut place = 0;
-    let mut at = 0;
-    while at < n {
-        if is_nan_at(payload, at) {
-            return Screened::Missing(place);
-        }
-        place += 1;
-        at += WEIGHT_BYTES;
-    }
-    Screened::Clean
+    Ok(first_missing(weights))
 }

@@ -1,67 +1,44 @@
--- `screening::screening` meets its contract: no weight before the loop's place is a NaN, so that its reply is what Screens says. Assumes nothing.
-use Prim.Native.Nat.{ℕ, ◌*◌, ◌%◌}
-use mathlib.Core.Path.{◌≡◌, refl, sym, ap, ◌∙◌}
-use mathlib.Core.Bool.{false}
-use mathlib.Core.List.{List}
-use native.Mathlib.Omega.{arith}
-use borrow.Author.Count.{below_more}
-use borrow.Author.Tests.{eq-eqb, ne_eqb}
-use lib.ListN.{length}
-use Rattle.words.specs.Bytes.{number_at}
-use Rattle.screening.specs.Screening.{bad_weights, is_nan, weight_at}
-use Rattle.screening.specs.declared.Screened.TheVariants.{Refused, Clean, Missing}
-use Rattle.screening.proofs.First.{settles}
+-- `screening::screening` meets its contract. Assumes nothing.
+use Rattle.std.proofs.Common.{rules, ◌≡◌, refl, sym, ap, ◌∙◌, ℕ, ◌/◌, ◌%◌, List, Bool, true, false, cond, not, ◌||◌, length, arith, Option, Result, Ok, Err}
+use Rattle.std.specs.Prelude.{position}
+use borrow.Author.Tests.{eq-eqb, ne_eqb, eqb-true, eqb-false}
+use Rattle.screening.specs.Screening.{bad_weights, first_nan, screened}
+use Rattle.screening.specs.Chunks.{is_missing}
+use Rattle.screening.proofs.Chunks.{chunks}
 use Rattle.screening.proofs.screening.Goals as goal
+use Rattle.screening.proofs.screening.Goals.{then-is_empty-via-then-is_empty, then-is_empty-via-else-is_empty+then-not-is_empty}
 
-good : (p : List ℕ) → (length p ≡ 0 → ⊥) → length p % 8 ≡ 0 → bad_weights p ≡ false
-good p h e = rw (ne_eqb (length p) 0 h, eq-eqb (length p % 8) 0 e) refl
+-- no chunk, or bytes behind them
 
-weight_at_lem : (p : List ℕ) (i at : ℕ) → at ≡ 8 * i → is_nan (weight_at p i) ≡ is_nan (number_at 8 p at)
-weight_at_lem p i at e = ap (λ (k : ℕ). is_nan (number_at 8 p k)) (sym e)
+none_whole : (p : List ℕ) → length p / 8 ≡ 0 → bad_weights p ≡ true
+none_whole p e = go (lib.Dec.eqb (length p) 0) refl
+  where
+    go : (t : Bool) → lib.Dec.eqb (length p) 0 ≡ t → bad_weights p ≡ true
+    go true f = rw f refl
+    go false f = let n = eqb-false _ _ f in rw (f, ne_eqb (length p % 8) 0 (λ z. n (omega arith))) refl
 
-pub returns-then-n-eq0 : goal.returns-then-n-eq0
-returns-then-n-eq0 c = (settles _).only (Refused 5) (refl, rw (eq-eqb _ _ c.if-n-eq0.true) refl)
+more_behind : (p : List ℕ) → (length p % 8 ≡ 0 → ⊥) → bad_weights p ≡ true
+more_behind p n = rw (ne_eqb (length p) 0 (λ z. n (omega arith)), ne_eqb (length p % 8) 0 n) refl
 
-pub returns-then-n-ne0 : goal.returns-then-n-ne0
-returns-then-n-ne0 c = (settles _).only (Refused 5) (refl, rw (ne_eqb _ _ c.if-n-eq0.false, ne_eqb _ _ c.if-n-ne0.true) refl)
+all_whole : (p : List ℕ) → (length p / 8 ≡ 0 → ⊥) → length p % 8 ≡ 0 → bad_weights p ≡ false
+all_whole p n e = rw (ne_eqb (length p) 0 (λ z. n (omega arith)), eq-eqb (length p % 8) 0 e) refl
 
-pub loop-at-init : goal.loop-at-init
-loop-at-init c = (omega arith, omega arith, λ k h. absurd (omega arith))
+refused : (p : List ℕ) → bad_weights p ≡ true → Err 5 ≡ screened p
+unfolding screened
+refused p e = rw e refl
 
-pub is_nan_at-requires : goal.is_nan_at-requires
-is_nan_at-requires c = omega arith
-
-pub returns-then-is_nan_at : goal.returns-then-is_nan_at
-returns-then-is_nan_at c =
-    let l = c in
-    let p = l.args.payload.now in
-    (settles p).only (Missing _) (
-      good p (omega arith) (omega arith),
-      omega arith,
-      weight_at_lem p l.loop-at.place l.loop-at.at l.loop-at.invariant.0 ∙ sym c.is_nan_at.ensures ∙ c.if-is_nan_at.true,
-      l.loop-at.invariant.2,
-    )
-
-pub overflow_add-place : goal.overflow_add-place
-overflow_add-place c = omega arith
-
-pub overflow_add-at : goal.overflow_add-at
-overflow_add-at c = omega arith
-
-pub loop-at-smaller : goal.loop-at-smaller
-loop-at-smaller c = omega arith
-
-pub loop-at-preserved : goal.loop-at-preserved
-loop-at-preserved c =
-    let l = c in
-    let p = l.args.payload.now in (
-      omega arith,
-      omega arith,
-      below_more _ _ l.loop-at.invariant.2 (weight_at_lem p l.loop-at.place l.loop-at.at l.loop-at.invariant.0 ∙ sym c.is_nan_at.ensures ∙ c.if-is_nan_at.false),
-    )
+pub returns-then-is_empty : goal.returns-then-is_empty
+returns-then-is_empty c =
+    let p = c.args.payload.now in
+    elim c.then-is_empty.branch [
+      then-is_empty-via-then-is_empty w ↦ refused p (none_whole p (sym c.as_chunks.ensures.front_len ∙ eqb-true _ _ (sym w.if-is_empty.ensures)))
+    | then-is_empty-via-else-is_empty+then-not-is_empty w ↦
+        refused p (more_behind p (λ z. eqb-false _ _ (sym w.is_empty-else-is_empty.ensures ∙ w.if-not-is_empty.true) (c.as_chunks.ensures.back_len ∙ z)))
+    ]
 
 pub returns : goal.returns
+unfolding screened
 returns c =
-    let l = c in
-    let p = l.args.payload.now in
-    (settles p).only Clean (good p (omega arith) (omega arith), λ k h. l.loop-at.invariant.2 k (omega arith))
+    let p = c.args.payload.now in
+    let good = all_whole p (λ z. eqb-false _ _ (sym c.if-is_empty.ensures) (c.as_chunks.ensures.front_len ∙ z)) (sym c.as_chunks.ensures.back_len ∙ eqb-true _ _ (sym c.is_empty-else-is_empty.ensures ∙ c.if-not-is_empty.false)) in
+    ap Ok (c.first_missing.ensures ∙ ap (position is_missing) c.as_chunks.ensures.front ∙ chunks p) ∙ sym (rw good refl)

@@ -1,11 +1,12 @@
--- `words::read_u64` meets its contract: two halves make the number. Assumes nothing.
-use mathlib.Core.Path.{ap₂, ◌∙◌}
-use Prim.Native.Nat.{ℕ, ◌+◌, ◌*◌}
-use native.Mathlib.Omega.{arith}
-use Rattle.words.proofs.Numbers.{join}
+-- `words::read_u64` meets its contract. Assumes nothing.
+use Rattle.std.proofs.Common.{◌∙◌, ap}
+use Rattle.words.specs.Bytes.{number_after, number_at}
+use Rattle.words.proofs.Numbers.{front_at, eight_read}
 use Rattle.words.proofs.read_u64.Goals as goal
 
 pub returns : goal.returns
+unfolding number_at
 returns c =
-    let s = c in
-    ap₂ (λ (a b : ℕ). a * 4294967296 + b) c.read_u32-high.ensures c.read_u32.ensures ∙ join 4 4 s.args.bytes.now s.args.at (omega arith)
+    let front = rw c.unwrap.ensures at c.first_chunk.ensures.cases in
+    let e = front_at 8 c.args.at c.args.bytes.now _ c.requires front.same in
+    c.from_be_bytes.ensures ∙ eight_read _ e.1 ∙ ap (number_after 0) e.0

@@ -1,31 +1,7 @@
--- `words::write_u64` meets its contract: eight stores, one after the other. Assumes nothing.
-use native.Mathlib.Omega.{arith}
-use lib.ListN.{length-set}
-use lib.Seq.{sets-eq}
-use Rattle.words.specs.Bytes.{last_bytes, word_bytes}
+-- `words::write_u64` meets its contract. Assumes nothing.
+use Rattle.std.proofs.Common.{◌∙◌, ap, ℕ, List, ◌++◌, drop}
+use Rattle.words.proofs.Numbers.{eight_written}
 use Rattle.words.proofs.write_u64.Goals as goal
 
-pub bounds-out-1 : goal.bounds-out-1
-bounds-out-1 c = simp length-set (omega arith)
-
-pub bounds-out-2 : goal.bounds-out-2
-bounds-out-2 c = simp length-set (omega arith)
-
-pub bounds-out-3 : goal.bounds-out-3
-bounds-out-3 c = simp length-set (omega arith)
-
-pub bounds-out-4 : goal.bounds-out-4
-bounds-out-4 c = simp length-set (omega arith)
-
-pub bounds-out-5 : goal.bounds-out-5
-bounds-out-5 c = simp length-set (omega arith)
-
-pub bounds-out-6 : goal.bounds-out-6
-bounds-out-6 c = simp length-set (omega arith)
-
-pub bounds-out-7 : goal.bounds-out-7
-bounds-out-7 c = simp length-set (omega arith)
-
 pub returns : goal.returns
-unfolding word_bytes
-returns c = sets-eq (last_bytes 8 c.args.x) c.args.out.now 0 (omega arith)
+returns c = ap (λ (l : List ℕ). l ++ drop 8 c.args.out.now) (c.copy_from_slice.ensures.after ∙ c.to_be_bytes.ensures ∙ eight_written c.args.x)
