@@ -11,50 +11,39 @@ pub const REPORT_BYTES: usize = 24;
 
 // Frames accepted, frames refused, and their total.
 #[repr(C)]
-#[derive(Clone, Copy)]
+#[derive(Clone, Copy, Debug, PartialEq, Eq, Default)]
 pub struct Counts {
     pub accepted: u64,
     pub refused: u64,
     pub total: u64,
 }
 
+#[tactic(auto, unfolding(crate::specs::Counts::stopped))]
 pub fn none() -> Counts
     ensures { result ≡ shown none_counted }
 {
-    Counts {
-        accepted: 0,
-        refused: 0,
-        total: 0,
-    }
+    Counts::default()
 }
 
 // Whether a number is a refusal that counts.
 fn is_refused(number: u8) -> bool
     ensures { result ≡ is_refused number }
 {
-    match number {
-        1 | 2 | 3 | 4 | 5 | 11 | 14 | 15 => true,
-        _ => false,
-    }
-}
-
-fn sum(m: u64, n: u64) -> u64
-    ensures { result ≡ stopped (m + n) }
-{
-    if u64::MAX - m < n {
-        return u64::MAX;
-    }
-    m + n
+    matches!(number, 1 | 2 | 3 | 4 | 5 | 11 | 14 | 15)
 }
 
 // So many accepted and refused frames more.
+#[tactic(auto, using(crate::proofs::Shown::sum_more), unfolding(crate::specs::Counts::stopped))]
 pub fn add(counts: Counts, accepted: u64, refused: u64) -> Counts
     ensures { result ≡ added accepted refused counts }
 {
     Counts {
-        accepted: sum(counts.accepted, accepted),
-        refused: sum(counts.refused, refused),
-        total: sum(sum(counts.total, accepted), refused),
+        accepted: counts.accepted.saturating_add(accepted),
+        refused: counts.refused.saturating_add(refused),
+        total: counts
+            .total
+            .saturating_add(accepted)
+            .saturating_add(refused),
     }
 }
 
@@ -62,20 +51,19 @@ pub fn add(counts: Counts, accepted: u64, refused: u64) -> Counts
 pub fn counted(counts: Counts, number: u8) -> Counts
     ensures { result ≡ shown_next number counts }
 {
-    if number == 0 {
-        return add(counts, 1, 0);
-    }
-    if is_refused(number) {
-        return add(counts, 0, 1);
-    }
-    add(counts, 0, 0)
+    add(
+        counts,
+        u64::from(number == 0),
+        u64::from(is_refused(number)),
+    )
 }
 
 // Whether the total is the sum of the other two, stopped.
+#[tactic(auto, unfolding(crate::specs::Counts::is_sum, crate::specs::Counts::stopped))]
 pub fn is_sum(counts: Counts) -> bool
     ensures { result ≡ is_sum counts }
 {
-    counts.total == sum(counts.accepted, counts.refused)
+    counts.total == counts.accepted.saturating_add(counts.refused)
 }
 
 // Writes the three numbers at the front, 8 bytes each.

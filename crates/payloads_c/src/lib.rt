@@ -8,8 +8,6 @@ ghost use Rattle.frames.specs.Part.{payload_from};
 ghost use Rattle.screening.specs.Screening.{screened};
 ghost use Rattle.payloads_c.specs.Screening.{encoded};
 
-use screening::Screened;
-
 // What a Screening's tag says of its number.
 const REFUSED: u8 = 0;
 
@@ -39,17 +37,16 @@ pub extern "C" fn weigher_payload(body: &[u8]) -> usize
 pub extern "C" fn weigher_screening(payload: &[u8]) -> Screening
     ensures { result ≡ encoded (screened payload.now) }
 {
-    let screened = screening::screening(payload);
-    match screened {
-        Screened::Refused(number) => Screening {
+    match screening::screening(payload) {
+        Err(bad) => Screening {
             tag: REFUSED,
-            number: number as usize,
+            number: bad.number() as usize,
         },
-        Screened::Clean => Screening {
+        Ok(None) => Screening {
             tag: CLEAN,
             number: 0,
         },
-        Screened::Missing(place) => Screening {
+        Ok(Some(place)) => Screening {
             tag: MISSING,
             number: place,
         },

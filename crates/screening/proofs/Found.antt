@@ -7,7 +7,7 @@ use native.Mathlib.Omega.{arith}
 use borrow.Author.Count.{below_more}
 use lib.ListN.{length}
 use Rattle.screening.specs.Screening.{bad_weights, is_nan, weight_at, first_nan, NoneBefore, Screens}
-use Rattle.std.specs.Prelude.{Option, Some, None, Result, Ok, Err}
+use Rattle.std.specs.Prelude.{Some, Ok}
 
 pub found : (p : List ℕ) (i n : ℕ) → bad_weights p ≡ false → i + n ≡ length p / 8 → NoneBefore p i → Screens p (Ok (first_nan p i n))
 found p i zero good e none = (good, λ k h. none k (omega arith))

@@ -4,7 +4,7 @@
 // a NaN, or 2 and the place of the first. A failure's got is 0.
 #![tactic(auto)]
 
-use screening::Screened;
+use screening::BadPayload;
 use vectors::Answer;
 
 // 64 weights, the longest kind 1 payload.
@@ -23,11 +23,11 @@ fn read_payload<'a>(text: &[u8], space: &'a mut [u8]) -> Option<&'a [u8]> {
 }
 
 // The two numbers of a reply.
-fn numbers_in(reply: Screened) -> [u64; 2] {
+fn numbers_in(reply: Result<Option<usize>, BadPayload>) -> [u64; 2] {
     match reply {
-        Screened::Refused(refusal) => [0, refusal as u64],
-        Screened::Clean => [1, 0],
-        Screened::Missing(place) => [2, place as u64],
+        Err(bad) => [0, u64::from(bad.number())],
+        Ok(None) => [1, 0],
+        Ok(Some(place)) => [2, place as u64],
     }
 }
 

@@ -1,8 +1,8 @@
 -- `screening::screening` meets its contract. Assumes nothing.
-use Rattle.std.proofs.Common.{rules, ◌≡◌, refl, sym, ap, ◌∙◌, ℕ, ◌/◌, ◌%◌, List, Bool, true, false, cond, not, ◌||◌, length, arith, Option, Result, Ok, Err}
+use Rattle.std.proofs.Common.{◌≡◌, refl, sym, ap, ◌∙◌, ℕ, ◌/◌, ◌%◌, List, Bool, true, false, length, arith, Ok, Err}
 use Rattle.std.specs.Prelude.{position}
 use borrow.Author.Tests.{eq-eqb, ne_eqb, eqb-true, eqb-false}
-use Rattle.screening.specs.Screening.{bad_weights, first_nan, screened}
+use Rattle.screening.specs.Screening.{bad_weights, screened}
 use Rattle.screening.specs.Chunks.{is_missing}
 use Rattle.screening.proofs.Chunks.{chunks}
 use Rattle.screening.proofs.screening.Goals as goal
@@ -31,9 +31,9 @@ pub returns-then-is_empty : goal.returns-then-is_empty
 returns-then-is_empty c =
     let p = c.args.payload.now in
     elim c.then-is_empty.branch [
-      then-is_empty-via-then-is_empty w ↦ refused p (none_whole p (sym c.as_chunks.ensures.front_len ∙ eqb-true _ _ (sym w.if-is_empty.ensures)))
-    | then-is_empty-via-else-is_empty+then-not-is_empty w ↦
-        refused p (more_behind p (λ z. eqb-false _ _ (sym w.is_empty-else-is_empty.ensures ∙ w.if-not-is_empty.true) (c.as_chunks.ensures.back_len ∙ z)))
+      | then-is_empty-via-then-is_empty w ↦ refused p (none_whole p (sym c.as_chunks.ensures.front_len ∙ eqb-true _ _ (sym w.if-is_empty.ensures)))
+      | then-is_empty-via-else-is_empty+then-not-is_empty w ↦
+          refused p (more_behind p (λ z. eqb-false _ _ (sym w.is_empty-else-is_empty.ensures ∙ w.if-not-is_empty.true) (c.as_chunks.ensures.back_len ∙ z)))
     ]
 
 pub returns : goal.returns
