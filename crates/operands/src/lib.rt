@@ -34,6 +34,7 @@ pub fn unlike_signs(a: u64, b: u64) -> bool
 }
 
 // A NaN with its sign and payload and with its top fraction bit set.
+#[tactic(auto, unfolding(ieee754::specs::Operations::quiet))]
 pub fn quiet(b: u64) -> u64
     ensures { result ≡ quiet b }
 {
