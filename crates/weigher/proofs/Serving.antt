@@ -1,13 +1,6 @@
 -- A piece under way to its end: each hand_on is one of those that the definition repeats. Assumes nothing.
-use Prim.Native.Nat.{ℕ, zero, suc, ◌+◌, ◌-◌, ◌≤◌, ◌<◌}
-use mathlib.Core.Path.{◌≡◌, refl, sym, ap, ◌∙◌}
-use mathlib.Core.List.{List, [], ◌∷◌, ◌++◌, append_assoc}
-use mathlib.Core.Bool.{true, false, true≢false}
-use native.Mathlib.Omega.{arith}
-use lib.ListN.{length, take, drop, length-drop, drop_of_length-le}
-use lib.Seq.{take_all, drop-drop}
+use Rattle.std.proofs.Common.{ℕ, zero, suc, ◌≤◌, ◌<◌, ◌≡◌, refl, sym, ap, ◌∙◌, List, [], ◌∷◌, ◌++◌, append_assoc, true, arith, length, drop, length-drop}
 use Rattle.frames.specs.Frame.{answer_room}
-use Rattle.service.specs.Book.{Reply}
 use Rattle.service.specs.Service.{is_good}
 use Rattle.service.specs.declared.State.{State}
 use Rattle.delivery.specs.Delivery.{hand_on, Delivers}
@@ -16,83 +9,54 @@ use Rattle.delivery.specs.declared.HandedOn.{HandedOn}
 use Rattle.delivery.proofs.Takes.{more_turns}
 use Rattle.weigher.specs.Serve.{Serves}
 
-handed_none : (n : ℕ) (s : State) (buffer : List ℕ) → handed n s [] buffer ≡ record { answers = []; state = s; buffer = buffer; left = [] }
-handed_none zero s buffer = refl
-handed_none (suc n) s buffer = refl
+handed_none : (n : ℕ) (s : State) (rest buffer : List ℕ) → length rest ≡ 0 → handed n s rest buffer ≡ record { answers = []; state = s; buffer = buffer; left = [] }
+handed_none zero s [] buffer e = refl
+handed_none (suc n) s [] buffer e = refl
+handed_none n s (x ∷ rest) buffer e = absurd (omega arith)
 
-handed_more : (n : ℕ) (s : State) (p buffer : List ℕ) → 0 < length p
-    → let r = hand_on s p buffer in handed (suc n) s p buffer ≡ behind (front r) (handed n r.state (drop r.used p) r.buffer)
+handed_more : (n : ℕ) (s : State) (rest buffer : List ℕ) → 0 < length rest
+    → let r = hand_on s rest buffer in handed (suc n) s rest buffer ≡ behind (front r) (handed n r.state (drop r.used rest) r.buffer)
 handed_more n s [] buffer l = absurd (omega arith)
-handed_more n s (x ∷ p) buffer l = refl
+handed_more n s (x ∷ rest) buffer l = refl
 
--- at bytes of the piece are handed on, and their answers written; the definition goes on from here
-pub record Serving (s₀ : State) (piece space₀ space : List ℕ) (s : State) (at : ℕ) : Type 0 where
-  pub within : at ≤ length piece
+behind_behind : (a b : List ℕ) (h : Handed) → behind a (behind b h) ≡ behind (a ++ b) h
+behind_behind a b h = ap (λ (x : List ℕ). record { answers = x; state = h.state; buffer = h.buffer; left = h.left }) (sym (append_assoc a b h.answers))
+
+-- some answers are written; the definition goes on from here
+pub record Serving (s₀ : State) (piece space₀ : List ℕ) (s : State) (rest space : List ℕ) : Type 0 where
   pub good : is_good s ≡ true
   pub room : answer_room ≤ length space
-  pub same_length : length space ≡ length space₀
   pub turns : ℕ
-  pub enough : length piece - at ≤ turns
+  pub enough : length rest ≤ turns
   pub written : List ℕ
-  pub rest : handed_to_end s₀ piece space₀ ≡ behind written (handed turns s (drop at piece) space)
+  pub goes_on : handed_to_end s₀ piece space₀ ≡ behind written (handed turns s rest space)
 
-pub serving : (s : State) (piece space : List ℕ) → is_good s ≡ true → answer_room ≤ length space → Serving s piece space space s 0
+pub serving : (s : State) (piece space : List ℕ) → is_good s ≡ true → answer_room ≤ length space → Serving s piece space s piece space
 serving s piece space g r =
-    record { within = omega arith; good = g; room = r; same_length = refl; turns = length piece; enough = omega arith; written = []; rest = refl }
+    record { good = g; room = r; turns = length piece; enough = omega arith; written = []; goes_on = refl }
 
-module _ {s₀ s : State} {piece space₀ space : List ℕ} {at : ℕ} (go : Serving s₀ piece space₀ space s at) where
-  pub served : length piece ≤ at → Serves s₀ piece space₀ (record { state = s; written = true }) space
+module _ {s₀ s : State} {piece space₀ rest space : List ℕ} (go : Serving s₀ piece space₀ s rest space) where
+  pub served : length rest ≡ 0 → Serves s₀ piece space₀ s space
   served h =
-      let e : handed_to_end s₀ piece space₀ ≡ behind go.written (record { answers = []; state = s; buffer = space; left = [] }) =
-      go.rest ∙ ap (λ (p : List ℕ). behind go.written (handed go.turns s p space)) (drop_of_length-le piece h) ∙ ap (behind go.written) (handed_none go.turns s space) in
-      record { good = go.good; state = λ w. sym (ap (λ (x : Handed). x.state) e); buffer = λ w. sym (ap (λ (x : Handed). x.buffer) e) }
+      let e = go.goes_on ∙ ap (behind go.written) (handed_none go.turns s rest space h) in
+      record { good = go.good; state = sym (ap (λ (x : Handed). x.state) e); buffer = sym (ap (λ (x : Handed). x.buffer) e) }
 
-  module _ (h : at < length piece) (r : HandedOn) (after : List ℕ) (d : Delivers s (take (length piece - at) (drop at piece)) space r after) where
-    abbrev p : List ℕ
-    p = drop at piece
-
-    abbrev e : Reply
-    e = hand_on s p space
-
-    all : take (length piece - at) p ≡ p
-    all = take_all (length piece - at) p (omega (arith, length-drop at piece))
-
-    pub served_in_part : Serves s₀ piece space₀ (record { state = r.state; written = false }) after
-    served_in_part = record { good = d.goes_on go.good go.room; state = λ w. absurd (true≢false (sym w)); buffer = λ w. absurd (true≢false (sym w)) }
-
-    pub served_used : (r.used ≤ length piece - at) × (1 ≤ r.used)
-    served_used =
-        let l : length (take (length piece - at) p) ≡ length piece - at = ap length all ∙ length-drop at piece in
-        (omega (arith, d.used), omega (arith, d.progress go.good go.room (omega arith)))
-
-    pub serving_on : length after ≡ length space → Serving s₀ piece space₀ after r.state (at + r.used)
-    serving_on same =
-        let m = more_turns go.turns (omega (arith, go.enough)) in
-        let next = handed m.0 e.state (drop e.used p) e.buffer in
-        let some : 0 < length p = omega (arith, length-drop at piece) in
-        record {
-          within = omega (arith, served_used.0);
-          good = d.goes_on go.good go.room;
-          room = omega (arith, go.room);
-          same_length = same ∙ go.same_length;
-          turns = m.0;
-          enough = omega (arith, served_used.1, go.enough, m.1);
-          written = go.written ++ front e;
-          rest =
-              go.rest
-              ∙ ap (behind go.written) (ap (λ (n : ℕ). handed n s p space) m.1 ∙ handed_more m.0 s p space some)
-              ∙ ap (λ (a : List ℕ). record { answers = a; state = next.state; buffer = next.buffer; left = next.left }) (sym (append_assoc go.written (front e) next.answers))
-              ∙ (λ j. behind (go.written ++ front e) (handed m.0 (states j) (places j) (buffers j)));
-        }
-      where
-        states : e.state ≡ r.state
-        states = sym (ap (λ (x : HandedOn). x.state) d.reply ∙ ap (λ (l : List ℕ). (hand_on s l space).state) all)
-
-        used : r.used ≡ e.used
-        used = ap (λ (x : HandedOn). x.used) d.reply ∙ ap (λ (l : List ℕ). (hand_on s l space).used) all
-
-        buffers : e.buffer ≡ after
-        buffers = sym (d.buffer ∙ ap (λ (l : List ℕ). (hand_on s l space).buffer) all)
-
-        places : drop e.used p ≡ drop (at + r.used) piece
-        places = drop-drop e.used at piece ∙ ap (λ (n : ℕ). drop (at + n) piece) (sym used)
+  -- one hand_on more, which used a byte at least
+  pub serving_on : (r : HandedOn) (left after : List ℕ) → 0 < length rest → Delivers s rest space r after → left ≡ drop r.used rest → length after ≡ length space → Serving s₀ piece space₀ r.state left after
+  serving_on r left after some d l same =
+      let m = more_turns go.turns (omega (arith, go.enough)) in
+      let e = hand_on s rest space in
+      let states : e.state ≡ r.state = sym (ap (λ (x : HandedOn). x.state) d.reply) in
+      let places : drop e.used rest ≡ left = ap (λ (x : HandedOn). drop x.used rest) (sym d.reply) ∙ sym l in
+      let next : handed m.0 e.state (drop e.used rest) e.buffer ≡ handed m.0 r.state left after = λ j. handed m.0 (states j) (places j) (sym d.buffer j) in
+      record {
+        good = d.goes_on go.good go.room;
+        room = omega (arith, go.room);
+        turns = m.0;
+        enough = omega (arith, ap length l, length-drop r.used rest, d.progress go.good go.room some, go.enough, m.1);
+        written = go.written ++ front e;
+        goes_on =
+            go.goes_on
+            ∙ ap (behind go.written) (ap (λ (n : ℕ). handed n s rest space) m.1 ∙ handed_more m.0 s rest space some ∙ ap (behind (front e)) next)
+            ∙ behind_behind go.written (front e) (handed m.0 r.state left after);
+      }

@@ -4,13 +4,15 @@
 // All that decides an answer is in the crates service and delivery.
 #![tactic(auto)]
 
-ghost use Rattle.std.specs.Prelude.{◌≡◌, true, ◌≤◌, length};
+ghost use Rattle.std.specs.Prelude.{◌≡◌, true, ◌≤◌, length, IfOk};
 ghost use Rattle.frames.specs.Frame.{answer_room};
 ghost use Rattle.service.specs.Service.{is_good};
 ghost use Rattle.weigher.specs.Serve.{Serves};
 
 use frames::ANSWER_ROOM;
 use service::State;
+use std::io;
+use std::io::Read;
 
 // Room for the answers to one read of 65,536 bytes, so that one write follows it: seven times its bytes and two answers (`once` of
 // crates/streams/specs/Streams.antt). A report has four bytes and 28 of answer, and the first frame may have come in part before.
@@ -22,81 +24,56 @@ fn answer_space() -> [u8; ANSWERS]
     [0; ANSWERS]
 }
 
-#[derive(Clone, Copy)]
-struct Served {
-    state: State,
-    written: bool,
-}
-
-// Writes answers. False where the output takes no more, of which standard error gets a line.
-fn write_answers<P: Print + Eprint>(rt: &P, answers: &[u8]) -> bool {
-    match stdio::write_out(rt, answers) {
-        Ok(()) => true,
-        Err(error) => {
-            stdio::output_failed(rt, error);
-            false
-        }
-    }
+// Why the program ends before its input does.
+enum Failure {
+    Input(io::Error),
+    Output(io::Error),
 }
 
 // Hands a piece on to its end, and writes every answer. Its promise, Serves of specs/Serve.antt, is one step of output_of of
 // crates/streams/specs/Streams.antt, which is shown to be the answers to the frames of all that was read.
-fn serve<P: Print + Eprint>(rt: &P, state: State, piece: &[u8], space: &mut [u8]) -> Served
+fn serve<P: Print>(rt: &P, state: State, piece: &[u8], space: &mut [u8]) -> io::Result<State>
     requires { (is_good state ≡ true) × (answer_room ≤ length space.old) }
-    ensures { Serves state piece.now space.old result space.new }
+    ensures { IfOk result (λ after. Serves state piece.now space.old after space.new) }
 {
     let mut state = state;
-    let mut at = 0;
-    while at < piece.len() {
-        let handed = delivery::hand_on(state, &piece[at..], space);
-        let len = handed.len;
+    let mut rest = piece;
+    while !rest.is_empty() {
+        let handed = delivery::hand_on(state, rest, space);
+        stdio::write_out(rt, &space[..handed.len])?;
         state = handed.state;
-        if !write_answers(rt, &space[..len]) {
-            return Served {
-                state,
-                written: false,
-            };
-        }
-        at += handed.used;
+        rest = &rest[handed.used..];
     }
-    Served {
-        state,
-        written: true,
-    }
+    Ok(state)
 }
 
 // The end of the input: an unfinished frame is refused.
-fn finish<P: Print + Eprint>(rt: &P, state: State) {
+fn finish<P: Print>(rt: &P, state: State) -> io::Result<()> {
     let mut answer = [0u8; ANSWER_ROOM];
     let closed = service::close(state, &mut answer);
-    let len = closed.len;
-    write_answers(rt, &answer[..len]);
+    stdio::write_out(rt, &answer[..closed.len])
 }
 
-fn main(rt: HostRuntime) {
-    let mut input = rt.stdin();
+// Serves the input to its end.
+#[tactic(auto, using(service::proofs::Calls::fresh_good))]
+fn serve_input<P: Print, R: Read>(rt: &P, input: &mut R) -> Result<(), Failure> {
     let mut piece = [0u8; 65536];
     let mut space = answer_space();
     let mut state = service::fresh();
-    let mut turns = u64::MAX;
-    while turns > 0 {
-        match stdio::read_some(&mut input, &mut piece) {
-            Ok(0) => {
-                finish(&rt, state);
-                return;
-            }
-            Ok(got) => {
-                let served = serve(&rt, state, &piece[..got], &mut space);
-                state = served.state;
-                if !served.written {
-                    return;
-                }
-            }
-            Err(error) => {
-                stdio::input_failed(&rt, error);
-                return;
-            }
+    for _ in 0..u64::MAX {
+        let got = stdio::read_some(input, &mut piece).map_err(Failure::Input)?;
+        if got == 0 {
+            return finish(rt, state).map_err(Failure::Output);
         }
-        turns -= 1;
+        state = serve(rt, state, &piece[..got], &mut space).map_err(Failure::Output)?;
+    }
+    Ok(())
+}
+
+fn main(rt: HostRuntime) {
+    match serve_input(&rt, &mut rt.stdin()) {
+        Ok(()) => {}
+        Err(Failure::Input(error)) => stdio::input_failed(&rt, error),
+        Err(Failure::Output(error)) => stdio::output_failed(&rt, error),
     }
 }
