@@ -222,7 +222,7 @@ fn exact_bits(negative: bool, m: u64, e: u64) -> Result<u64, ConstantError>
     requires { (0 < m) × (e ≤ 2164) }
     ensures { RepliesBits negative m e (numbered refusal_of result) }
 {
-    let z = u64::leading_zeros(m) as u64;
+    let z = m.leading_zeros() as u64;
     let w = m << z;
     if z + 51 <= e {
         let k = e - z - 51;
