@@ -12,7 +12,11 @@ use Rattle.frames.specs.Frame.{answer_room, whole}
 use Rattle.service.specs.Book.{Book, Reply, book_take}
 use Rattle.service.specs.Service.{is_good, book_of, untouched}
 use Rattle.service.specs.declared.State.{State}
+use Rattle.service.specs.Refusals.{number_of, checked}
+use Rattle.service.specs.declared.Refusal.{Refusal}
+use Rattle.service.proofs.Calls.{numbered, some_number, checked_good, refused_by}
 use Rattle.service.proofs.Simulation.{good_state}
+use Rattle.std.specs.Prelude.{Err}
 use Rattle.delivery.specs.Delivery.{Given, nothing, and_then, takes, delivery_of, given, hand_on, handed_on_of, Delivers, Delivery}
 use Rattle.delivery.specs.declared.HandedOn.{HandedOn}
 use Rattle.delivery.proofs.Takes.{take_most, take_unfinished, answer_most, takes_step, uses}
@@ -61,39 +65,22 @@ delivery_uses b (x ∷ p) room h l = rw (takes_step (length p) room b (x ∷ p) 
 -- ---- the cases of hand_on
 
 module _ (s : State) (piece before : List ℕ) where
-  small_reply : length before < answer_room → hand_on s piece before ≡ untouched 6 s before
-  unfolding hand_on
-  small_reply h = rw (lt-ltb (length before) answer_room h) refl
-
-  bad_reply : answer_room ≤ length before → is_good s ≡ false → hand_on s piece before ≡ untouched 7 s before
-  unfolding hand_on
-  bad_reply h g = rw (le-ltb (length before) answer_room h, g) refl
-
   good_reply : answer_room ≤ length before → is_good s ≡ true → hand_on s piece before ≡ given (delivery_of (book_of s) piece (length before)) before
   unfolding hand_on
   good_reply h g = rw (le-ltb (length before) answer_room h, g) refl
 
-  pub small_refused : length before < answer_room → Delivers s piece before (record { state = s; used = 0; len = 0; refusal = 6 }) before
-  small_refused h =
+  pub refused : {e : Refusal} → Err e ≡ checked s (length before) → Delivers s piece before (record { state = s; used = 0; len = 0; refusal = number_of e }) before
+  unfolding hand_on
+  refused {e} h =
+      let f : hand_on s piece before ≡ untouched (number_of e) s before = refused_by s before h (λ n. untouched n s before) _ in
+      let bad : is_good s ≡ true → answer_room ≤ length before → ⊥ = λ g i. some_number e (ap numbered h ∙ checked_good s (length before) i g) in
       record {
-        reply = sym (ap handed_on_of (small_reply h));
-        buffer = sym (ap (λ (x : Reply). x.buffer) (small_reply h));
+        reply = sym (ap handed_on_of f);
+        buffer = sym (ap (λ (x : Reply). x.buffer) f);
         used = omega arith;
         len = omega arith;
-        goes_on = λ g i. absurd (omega arith);
-        progress = λ g i l. absurd (omega arith);
-      }
-
-  pub bad_refused : answer_room ≤ length before → is_good s ≡ false → Delivers s piece before (record { state = s; used = 0; len = 0; refusal = 7 }) before
-  bad_refused h e =
-      let b = bad_reply h e in
-      record {
-        reply = sym (ap handed_on_of b);
-        buffer = sym (ap (λ (x : Reply). x.buffer) b);
-        used = omega arith;
-        len = omega arith;
-        goes_on = λ g i. absurd (true≢false (sym g ∙ e));
-        progress = λ g i l. absurd (true≢false (sym g ∙ e));
+        goes_on = λ g i. absurd (bad g i);
+        progress = λ g i l. absurd (bad g i);
       }
 
   pub delivered : (r : HandedOn) (after : List ℕ) → answer_room ≤ length before → is_good s ≡ true → whole (book_of s).held ≡ false

@@ -14,10 +14,6 @@ ghost use Rattle.delivery.specs.Delivery.{Delivers, Delivery, delivery_of};
 use frames::ANSWER_ROOM;
 use service::State;
 
-const SMALL_BUFFER: u8 = 6;
-
-const BAD_STATE: u8 = 7;
-
 // The state, the bytes of the piece that were used, the bytes of answers at the buffer's front, and refusal 6, 7 or 0.
 #[repr(C)]
 #[derive(Clone, Copy)]
@@ -39,12 +35,7 @@ fn take_frames(state: State, piece: &[u8], answers: &mut [u8]) -> HandedOn
     let mut len = 0;
     while used < piece.len() {
         if answers.len() - len < ANSWER_ROOM {
-            return HandedOn {
-                state,
-                used,
-                len,
-                refusal: 0,
-            };
+            break;
         }
         let taken = service::take(state, &piece[used..], &mut answers[len..]);
         state = taken.state;
@@ -52,7 +43,7 @@ fn take_frames(state: State, piece: &[u8], answers: &mut [u8]) -> HandedOn
         len += taken.len;
         if 0 < taken.len && used < piece.len() {
             let run = runs::answer_run(state.view, &piece[used..], &mut answers[len..]);
-            state = service::between(run.view);
+            state = State::between(run.view);
             used += run.used;
             len += run.len;
         }
@@ -68,21 +59,13 @@ fn take_frames(state: State, piece: &[u8], answers: &mut [u8]) -> HandedOn
 pub fn hand_on(state: State, piece: &[u8], answers: &mut [u8]) -> HandedOn
     ensures { Delivers state piece.now answers.old result answers.new }
 {
-    if answers.len() < ANSWER_ROOM {
-        return HandedOn {
+    match state.check(answers.len()) {
+        Ok(()) => take_frames(state, piece, answers),
+        Err(refusal) => HandedOn {
             state,
             used: 0,
             len: 0,
-            refusal: SMALL_BUFFER,
-        };
-    }
-    if service::is_good(state) {
-        return take_frames(state, piece, answers);
-    }
-    HandedOn {
-        state,
-        used: 0,
-        len: 0,
-        refusal: BAD_STATE,
+            refusal: refusal.number(),
+        },
     }
 }

@@ -14,7 +14,7 @@ use frames::{REPORT, SHEET};
 
 // A field for each thing that lasts.
 #[repr(C)]
-#[derive(Clone, Copy)]
+#[derive(Clone, Copy, PartialEq, Eq)]
 pub struct View {
     pub counts: Counts,
 }

@@ -22,6 +22,10 @@ with_body s p = record { count = s.count; hi = s.hi; lo = s.lo; body = p }
 abbrev pub sized : ℕ → ℕ → ℕ → List ℕ → PartialFrame
 sized n a b p = record { count = n; hi = a; lo = b; body = p }
 
+-- the same frame with another count and body
+abbrev pub resized : PartialFrame → ℕ → List ℕ → PartialFrame
+resized s n p = record { count = n; hi = s.hi; lo = s.lo; body = p }
+
 pub empty_held : frame_of [] ≡ empty_frame
 unfolding kept_bytes
 empty_held = ap (λ l. with_body (frame_of []) (places_of l)) (same_cond (kept 0) [])

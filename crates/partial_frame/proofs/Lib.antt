@@ -2,5 +2,5 @@ pub mod Places
 pub mod Held
 pub mod Reach
 pub mod Loops
-pub mod Skipped
+pub mod Bodies
 mod Examples

@@ -2,28 +2,10 @@
 // specs/Steps.antt.
 #![tactic(auto)]
 
-ghost use Rattle.std.specs.Prelude.{◌≡◌, true, false, ◌≤◌, ◌<◌, length, drop};
-ghost use Rattle.frames.specs.Frame.{kept};
-ghost use Rattle.partial_frame.specs.State.{length_in};
-ghost use Rattle.partial_frame.specs.Steps.{whole_in, after_byte, advance, further, Begun};
+ghost use Rattle.std.specs.Prelude.{◌≡◌, false, ◌≤◌, length};
+ghost use Rattle.partial_frame.specs.Steps.{whole_in, advance, Begun};
 
-use partial_frame::{PartialFrame, Progress, body_length, is_kept, is_whole};
-
-// One byte more, where it is a length byte.
-fn with_length_byte(frame: PartialFrame, b: u8) -> PartialFrame
-    requires { frame.count < 2 }
-    ensures { result ≡ after_byte frame b }
-{
-    let mut next = frame;
-    if frame.count == 0 {
-        next.hi = b;
-        next.count = 1;
-        return next;
-    }
-    next.lo = b;
-    next.count = 2;
-    next
-}
+use partial_frame::{PartialFrame, Progress, is_kept};
 
 // The length bytes that have not come.
 fn take_length(frame: PartialFrame, piece: &[u8]) -> Progress
@@ -32,84 +14,32 @@ fn take_length(frame: PartialFrame, piece: &[u8]) -> Progress
 {
     let mut frame = frame;
     let mut used = 0;
-    while used < piece.len() {
-        if 2 <= frame.count {
-            return Progress {
-                frame,
-                used,
-                whole: false,
-            };
+    for byte in piece {
+        match frame.count {
+            0 => frame.hi = *byte,
+            1 => frame.lo = *byte,
+            _ => break,
         }
-        frame = with_length_byte(frame, piece[used]);
+        frame.count += 1;
         used += 1;
-        if is_whole(frame) {
-            return Progress {
-                frame,
-                used,
-                whole: true,
-            };
-        }
     }
-    Progress {
-        frame,
-        used,
-        whole: false,
-    }
+    Progress { frame, used }
 }
 
-// The bytes of a body that is kept. The fields are written in the loop: a call by value for each byte would copy the state.
-fn take_body(frame: PartialFrame, piece: &[u8], from: usize) -> Progress
-    requires { (whole_in frame ≡ false) × (2 ≤ frame.count) × (kept (length_in frame) ≡ true) × (from ≤ length piece.now) }
-    ensures { result ≡ further from (advance frame (drop from piece.now)) }
+// The bytes of the body. One that is not kept is counted.
+fn take_body(frame: PartialFrame, piece: &[u8]) -> Progress
+    requires { (whole_in frame ≡ false) × (2 ≤ frame.count) }
+    ensures { (result ≡ advance frame piece.now) × (result.used ≤ length piece.now) }
 {
-    let end = 2 + body_length(frame);
     let mut frame = frame;
-    let mut used = from;
-    while used < piece.len() {
-        let n = frame.count;
-        let at = n - 2;
-        frame.body[at] = piece[used];
-        frame.count = n + 1;
-        used += 1;
-        if end <= n + 1 {
-            return Progress {
-                frame,
-                used,
-                whole: true,
-            };
-        }
+    let length = frame.body_length();
+    let at = frame.count - 2;
+    let used = piece.len().min(length - at);
+    if is_kept(length) {
+        frame.body[at..at + used].copy_from_slice(&piece[..used]);
     }
-    Progress {
-        frame,
-        used,
-        whole: false,
-    }
-}
-
-// The bytes of a body that is not kept: they are counted.
-fn skip_body(frame: PartialFrame, piece: &[u8], from: usize) -> Progress
-    requires { (whole_in frame ≡ false) × (2 ≤ frame.count) × (kept (length_in frame) ≡ false) × (from ≤ length piece.now) }
-    ensures { result ≡ further from (advance frame (drop from piece.now)) }
-{
-    let end = 2 + body_length(frame);
-    let n = frame.count;
-    let missing = end - n;
-    let left = piece.len() - from;
-    let mut frame = frame;
-    if left < missing {
-        frame.count = n + left;
-        return Progress {
-            frame,
-            used: piece.len(),
-            whole: false,
-        };
-    }
-    frame.count = end;
-    Progress {
-        frame,
-        used: from + missing,
-        whole: true,
-    }
+    frame.count += used;
+    Progress { frame, used }
 }
 
 // Takes bytes off the piece's front, up to the end of the frame or of the piece.
@@ -118,16 +48,13 @@ pub fn take_bytes(frame: PartialFrame, piece: &[u8]) -> Progress
     ensures { result ≡ advance frame piece.now }
 {
     let begun = take_length(frame, piece);
-    if begun.whole {
+    let rest = &piece[begun.used..];
+    if rest.is_empty() || begun.frame.is_whole() {
         return begun;
     }
-    let frame = begun.frame;
-    let used = begun.used;
-    if used < piece.len() {
-        if is_kept(body_length(frame)) {
-            return take_body(frame, piece, used);
-        }
-        return skip_body(frame, piece, used);
+    let body = take_body(begun.frame, rest);
+    Progress {
+        frame: body.frame,
+        used: begun.used + body.used,
     }
-    begun
 }

@@ -2,10 +2,12 @@
 use Prim.Native.Nat.{ℕ, zero, suc, ◌+◌, ◌≤◌}
 use mathlib.Core.Path.{◌≡◌, refl, sym, ap, subst, subst₂, ◌∙◌}
 use mathlib.Core.List.{List, [], ◌∷◌, ◌++◌}
-use mathlib.Core.Bool.{Bool, true, false}
+use mathlib.Core.Bool.{Bool, true, false, cond}
+use Rattle.std.specs.Prelude.{Result, Ok, Err}
+use lib.Dec.{ltb}
 use native.Mathlib.Omega.{arith}
 use lib.ListN.{length, take, drop}
-use borrow.Author.Tests.{le-ltb, leb-true, leb-false}
+use borrow.Author.Tests.{le-ltb, ltb-false, leb-true, leb-false}
 use Rattle.frames.specs.Frame.{longest_body, answer_room, body_length, whole, kept, refusal_frame}
 use Rattle.answers.specs.Answers.{Answer, answer_of}
 use Rattle.partial_frame.specs.State.{frame_of, empty_frame, bytes_in, first_bytes, is_left, length_in, filled, kept_bytes, places_of}
@@ -20,6 +22,9 @@ use Rattle.service.specs.Whole.{Whole, body_in}
 use Rattle.service.specs.Book.{empty_book, emptied, state_with, state_of, Entry, Moved, Reply, move, one_more, closed_with, reply_of, is_small}
 use Rattle.service.specs.Service.{fresh_state, is_good, book_of, take_of, close_of, untouched, taken_of, closed_of}
 use Rattle.service.specs.declared.State.{State}
+use Rattle.service.specs.Refusals.{number_of, checked}
+use Rattle.service.specs.declared.Refusal.{Refusal}
+use Rattle.service.specs.declared.Refusal.TheVariants.{SmallBuffer, BadState, Unfinished}
 use Rattle.service.specs.declared.Closed.{Closed}
 use Rattle.partial_frame.specs.declared.PartialFrame.{PartialFrame}
 use Rattle.partial_frame.specs.declared.Progress.{Progress}
@@ -33,13 +38,13 @@ use Rattle.service.proofs.Simulation.{move_whole, move_on, fresh_whole, whole_no
 
 -- the machine from the state of h is the book from h
 abbrev shown_progress : Moved → Progress
-shown_progress m = record { frame = frame_of m.held; used = m.used; whole = whole m.held }
+shown_progress m = record { frame = frame_of m.held; used = m.used }
 
 one_further : (m : Moved) → further 1 (shown_progress m) ≡ shown_progress (one_more m)
-one_further m = ap (λ (n : ℕ). record { frame = frame_of m.held; used = n; whole = whole m.held }) (omega arith)
+one_further m = ap (λ (n : ℕ). record { frame = frame_of m.held; used = n }) (omega arith)
 
 pub advance_book : (p h : List ℕ) → whole h ≡ false → advance (frame_of h) p ≡ shown_progress (move h p)
-advance_book [] h n = ap (λ (t : Bool). record { frame = frame_of h; used = 0; whole = t }) (sym n)
+advance_book [] h n = refl
 advance_book (b ∷ p) h n = go (whole (h ++ (b ∷ []))) refl (advance_book p (h ++ (b ∷ [])))
   where
     f : whole_in (after_byte (frame_of h) b) ≡ whole (h ++ (b ∷ []))
@@ -49,8 +54,7 @@ advance_book (b ∷ p) h n = go (whole (h ++ (b ∷ []))) refl (advance_book p (
         → (whole (h ++ (b ∷ [])) ≡ false → advance (frame_of (h ++ (b ∷ []))) p ≡ shown_progress (move (h ++ (b ∷ [])) p))
         → advance (frame_of h) (b ∷ p) ≡ shown_progress (move h (b ∷ p))
     go true w ih =
-        rw (f, w) (ap (λ (s : PartialFrame). record { frame = s; used = 1; whole = true }) (byte_held h b))
-        ∙ sym (ap shown_progress (move_whole p h b w) ∙ ap (λ (t : Bool). record { frame = frame_of (h ++ (b ∷ [])); used = 1; whole = t }) w)
+        rw (f, w) (ap (λ (s : PartialFrame). record { frame = s; used = 1 }) (byte_held h b)) ∙ sym (ap shown_progress (move_whole p h b w))
     go false w ih =
         rw (f, w) (ap (λ (s : PartialFrame). further 1 (advance s p)) (byte_held h b) ∙ ap (further 1) (ih w) ∙ one_further (move (h ++ (b ∷ [])) p))
         ∙ sym (ap shown_progress (move_on p h b w))
@@ -101,23 +105,48 @@ pub view_kept : (v : View) (f : List ℕ) → length f ≤ 2 + body_length f →
 unfolding answer_of
 view_kept v f l = ap (λ (a : Answer). record { counts = shown_next a.number v.counts }) (answer_kept v f l)
 
-module _ (s : State) (p buffer : List ℕ) where
-  pub take_small : is_small buffer ≡ true → take_of s p buffer ≡ untouched 6 s buffer
+-- ---- what refuses a call before anything else
+
+abbrev pub numbered : Result Unit Refusal → ℕ
+numbered (Ok x) = 0
+numbered (Err e) = number_of e
+
+pub some_number : (e : Refusal) → number_of e ≡ 0 → ⊥
+some_number SmallBuffer z = absurd (omega arith)
+some_number BadState z = absurd (omega arith)
+some_number Unfinished z = absurd (omega arith)
+
+pub checked_ok : (s : State) (n : ℕ) {r : Result Unit Refusal} → r ≡ checked s n → numbered r ≡ 0 → (answer_room ≤ n) × (is_good s ≡ true)
+checked_ok s n {r} e z = go (ltb n answer_room) (is_good s) refl refl (sym (ap numbered e) ∙ z)
+  where
+    go : (t g : Bool) → ltb n answer_room ≡ t → is_good s ≡ g → numbered (checked s n) ≡ 0 → (answer_room ≤ n) × (is_good s ≡ true)
+    go true g t f z = let y = rw t at z in absurd (omega arith)
+    go false true t f z = (ltb-false n answer_room t, f)
+    go false false t f z = let y = rw (t, f) at z in absurd (omega arith)
+
+pub checked_good : (s : State) (n : ℕ) → answer_room ≤ n → is_good s ≡ true → numbered (checked s n) ≡ 0
+checked_good s n h g = rw (le-ltb n answer_room h, g) refl
+
+-- refusal 6, refusal 7
+module _ (s : State) (buffer : List ℕ) {e : Refusal} (h : Err e ≡ checked s (length buffer)) where
+  refused : numbered (checked s (length buffer)) ≡ number_of e
+  refused = sym (ap numbered h)
+
+  pub refused_by : {A : Type 0} (f : ℕ → A) (x : A) → cond (is_small buffer) (f 6) (cond (is_good s) x (f 7)) ≡ f (number_of e)
+  refused_by {A} f x = go (is_small buffer) (is_good s) refl refl
+    where
+      go : (t g : Bool) → is_small buffer ≡ t → is_good s ≡ g → cond (is_small buffer) (f 6) (cond (is_good s) x (f 7)) ≡ f (number_of e)
+      go true g t k = let y = rw t at refused in rw t (ap f y)
+      go false true t k = let y = rw (t, k) at refused in absurd (some_number e (sym y))
+      go false false t k = let y = rw (t, k) at refused in rw (t, k) (ap f y)
+
+  pub take_refused : (p : List ℕ) → take_of s p buffer ≡ untouched (number_of e) s buffer
   unfolding take_of
-  take_small e = rw e refl
+  take_refused p = refused_by (λ n. untouched n s buffer) _
 
-  pub take_bad : is_small buffer ≡ false → is_good s ≡ false → take_of s p buffer ≡ untouched 7 s buffer
-  unfolding take_of
-  take_bad e f = rw (e, f) refl
-
-module _ (s : State) (buffer : List ℕ) where
-  pub close_small : is_small buffer ≡ true → close_of s buffer ≡ untouched 6 s buffer
+  pub close_refused : close_of s buffer ≡ untouched (number_of e) s buffer
   unfolding close_of
-  close_small e = rw e refl
-
-  pub close_bad : is_small buffer ≡ false → is_good s ≡ false → close_of s buffer ≡ untouched 7 s buffer
-  unfolding close_of
-  close_bad e f = rw (e, f) refl
+  close_refused = refused_by (λ n. untouched n s buffer) _
 
 -- a good state is that of a book, which is unfinished
 pub shown_by : (s : State) → length s.frame.body ≡ longest_body → Sized s.view → is_good s ≡ true → (s ≡ state_of (book_of s)) × (whole (book_of s).held ≡ false)
@@ -151,10 +180,10 @@ module _ (s : State) (shown : s ≡ state_of (book_of s)) (unfinished : whole (b
     past = move_past p (book_of s).held unfinished
 
     -- what is held of a whole frame
-    pub take_body : {q : Progress} → q ≡ advance s.frame p → q.whole ≡ true → Whole q.frame
+    pub take_body : {q : Progress} → q ≡ advance s.frame p → whole_in q.frame ≡ true → Whole q.frame
     take_body {q} h w =
         let a : q ≡ shown_progress m = h ∙ advanced in
-        let v : whole m.held ≡ true = sym (ap (λ (x : Progress). x.whole) a) ∙ w in
+        let v : whole m.held ≡ true = whole_held m.held ∙ sym (ap (λ (x : Progress). whole_in x.frame) a) ∙ w in
         subst Whole (sym (ap (λ (x : Progress). x.frame) a))
         (record { places = length_places (kept_bytes m.held); within = filled_most m.held past; all = λ k. filled_whole m.held v past k })
 
@@ -162,22 +191,22 @@ module _ (s : State) (shown : s ≡ state_of (book_of s)) (unfinished : whole (b
       large : is_small buffer ≡ false
       large = le-ltb (length buffer) answer_room room
 
-      pub take_waiting : {q : Progress} → q ≡ advance s.frame p → q.whole ≡ false
+      pub take_waiting : {q : Progress} → q ≡ advance s.frame p → whole_in q.frame ≡ false
           → take_of s p buffer ≡ record { used = q.used; len = 0; number = 0; state = state_with q.frame s.view; buffer = buffer }
       unfolding take_of
       take_waiting {q} h w =
           let a : q ≡ shown_progress m = h ∙ advanced in
-          let v : whole m.held ≡ false = sym (ap (λ (x : Progress). x.whole) a) ∙ w in
+          let v : whole m.held ≡ false = whole_held m.held ∙ sym (ap (λ (x : Progress). whole_in x.frame) a) ∙ w in
           rw (large, good, v) (λ i. record { used = (sym a i).used; len = 0; number = 0; state = state_with (sym a i).frame (view i); buffer = buffer })
 
-      pub take_whole : {q : Progress} → q ≡ advance s.frame p → q.whole ≡ true
+      pub take_whole : {q : Progress} → q ≡ advance s.frame p → whole_in q.frame ≡ true
           → let a = answer_by s.view (length_in q.frame) (body_in q.frame) in
           take_of s p buffer ≡ record { used = q.used; len = length a.bytes; number = a.number; state = state_with empty_frame (view_by s.view (length_in q.frame) (body_in q.frame)); buffer = a.bytes ++ drop (length a.bytes) buffer }
       unfolding take_of
       take_whole {q} h w =
           let f = m.held in
           let a : q ≡ shown_progress m = h ∙ advanced in
-          let v : whole f ≡ true = sym (ap (λ (x : Progress). x.whole) a) ∙ w in
+          let v : whole f ≡ true = whole_held m.held ∙ sym (ap (λ (x : Progress). whole_in x.frame) a) ∙ w in
           let b : answer_with (view_of c) f ≡ answer_by s.view (length_in q.frame) (body_in q.frame) =
           ap (λ (x : View). answer_with x f) view ∙ sym (ap (λ (x : Progress). answer_by s.view (length_in x.frame) (body_in x.frame)) a ∙ answer_kept s.view f past) in
           let d : view_of (remembered f (answer_with (view_of c) f) c) ≡ view_by s.view (length_in q.frame) (body_in q.frame) =

@@ -1,3 +1,4 @@
 pub mod Book
 pub mod Service
 pub mod Whole
+pub mod Refusals

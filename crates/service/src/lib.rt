@@ -12,21 +12,31 @@ ghost use Rattle.memory.specs.Answers.{Answers};
 ghost use Rattle.service.specs.Book.{state_with, state_of};
 ghost use Rattle.service.specs.Service.{fresh_state, is_good, book_of, take_of, close_of, taken_of, closed_of};
 ghost use Rattle.service.specs.Whole.{Whole, body_in};
+ghost use Rattle.service.specs.Refusals.{number_of, checked};
 
 use frames::ANSWER_ROOM;
 use memory::{Answered, View};
-use partial_frame::PartialFrame;
+use partial_frame::{PartialFrame, Progress};
 
-// What a call is refused by, where its caller brings it about.
-const SMALL_BUFFER: u8 = 6;
+// Why a call is refused, by the refusal's number: what its caller brings about, and the end of the stream inside a frame.
+#[derive(Clone, Copy, Debug, PartialEq, Eq)]
+pub enum Refusal {
+    SmallBuffer = 6,
+    BadState = 7,
+    Unfinished = 8,
+}
 
-const BAD_STATE: u8 = 7;
-// The end of the stream inside a frame.
-const UNFINISHED: u8 = 8;
+impl Refusal {
+    pub fn number(self) -> u8
+        ensures { result ≡ number_of self }
+    {
+        self as u8
+    }
+}
 
 // All that the service knows between calls. Any value may be handed over.
 #[repr(C)]
-#[derive(Clone, Copy)]
+#[derive(Clone, Copy, PartialEq, Eq)]
 pub struct State {
     pub frame: PartialFrame,
     pub view: View,
@@ -51,38 +61,56 @@ pub struct Closed {
     pub refusal: u8,
 }
 
-// Between frames.
-pub fn between(view: View) -> State
-    ensures { result ≡ state_with empty_frame view }
-{
-    let frame = partial_frame::no_frame();
-    State { frame, view }
+impl State {
+    // Between frames.
+    pub fn between(view: View) -> State
+        ensures { result ≡ state_with empty_frame view }
+    {
+        State {
+            frame: PartialFrame::empty(),
+            view,
+        }
+    }
+
+    // Whether some book leaves the state.
+    #[tactic(auto, unfolding(crate::specs::Service::is_good))]
+    pub fn is_good(&self) -> bool
+        ensures { result ≡ is_good self.now }
+    {
+        self.frame.is_left() && memory::is_view(self.view)
+    }
+
+    // Whether a call with an answer buffer of so many bytes goes through.
+    pub fn check(&self, room: usize) -> Result<(), Refusal>
+        ensures { result ≡ checked self.now room }
+    {
+        if room < ANSWER_ROOM {
+            return Err(Refusal::SmallBuffer);
+        }
+        if !self.is_good() {
+            return Err(Refusal::BadState);
+        }
+        Ok(())
+    }
 }
 
 pub fn fresh() -> State
     ensures { result ≡ fresh_state }
 {
-    between(memory::start())
-}
-
-// Whether some book leaves the state.
-pub fn is_good(state: State) -> bool
-    ensures { result ≡ is_good state }
-{
-    if partial_frame::is_left(state.frame) {
-        return memory::is_view(state.view);
-    }
-    false
+    State::between(memory::start())
 }
 
 // Answers the frame that is whole.
-fn answer_whole(view: View, frame: PartialFrame, answer: &mut [u8]) -> Answered
-    requires { Whole frame × (answer_room ≤ length answer.old) }
-    ensures { Answers view (length_in frame) (body_in frame) result answer.old answer.new }
+fn answer_whole(view: View, frame: &PartialFrame, answer: &mut [u8]) -> Answered
+    requires { Whole frame.now × (answer_room ≤ length answer.old) }
+    ensures { Answers view (length_in frame.now) (body_in frame.now) result answer.old answer.new }
 {
-    let n = partial_frame::filled_places(frame);
-    let body = frame.body;
-    memory::respond(view, partial_frame::body_length(frame), &body[..n], answer)
+    memory::respond(
+        view,
+        frame.body_length(),
+        &frame.body[..frame.filled_places()],
+        answer,
+    )
 }
 
 // take, where neither 6 nor 7 refuses it.
@@ -90,25 +118,22 @@ fn take_good(state: State, piece: &[u8], answer: &mut [u8]) -> Taken
     requires { (state ≡ state_of (book_of state)) × (whole (book_of state).held ≡ false) × (answer_room ≤ length answer.old) }
     ensures { (result ≡ taken_of (take_of state piece.now answer.old)) × (answer.new ≡ (take_of state piece.now answer.old).buffer) }
 {
-    let view = state.view;
-    let progress = pieces::take_bytes(state.frame, piece);
-    let frame = progress.frame;
-    if progress.whole {
-        let answered = answer_whole(view, frame, answer);
-        let state = between(answered.view);
+    let State { frame, view } = state;
+    let Progress { frame, used } = pieces::take_bytes(frame, piece);
+    if !frame.is_whole() {
         return Taken {
-            state,
-            used: progress.used,
-            len: answered.len,
-            refusal: answered.refusal,
+            state: State { frame, view },
+            used,
+            len: 0,
+            refusal: 0,
         };
     }
-    let state = State { frame, view };
+    let answered = answer_whole(view, &frame, answer);
     Taken {
-        state,
-        used: progress.used,
-        len: 0,
-        refusal: 0,
+        state: State::between(answered.view),
+        used,
+        len: answered.len,
+        refusal: answered.refusal,
     }
 }
 
@@ -116,56 +141,40 @@ fn take_good(state: State, piece: &[u8], answer: &mut [u8]) -> Taken
 pub fn take(state: State, piece: &[u8], answer: &mut [u8]) -> Taken
     ensures { (result ≡ taken_of (take_of state piece.now answer.old)) × (answer.new ≡ (take_of state piece.now answer.old).buffer) }
 {
-    if answer.len() < ANSWER_ROOM {
-        return Taken {
+    match state.check(answer.len()) {
+        Ok(()) => take_good(state, piece, answer),
+        Err(refusal) => Taken {
             state,
             used: 0,
             len: 0,
-            refusal: SMALL_BUFFER,
-        };
-    }
-    if is_good(state) {
-        return take_good(state, piece, answer);
-    }
-    Taken {
-        state,
-        used: 0,
-        len: 0,
-        refusal: BAD_STATE,
+            refusal: refusal.number(),
+        },
     }
 }
 
 // Ends the stream: an unfinished frame is refused, and the service is fresh but for what lasts.
 pub fn close(state: State, answer: &mut [u8]) -> Closed
-    ensures { (result ≡ closed_of (close_of state answer.old)) × (answer.new ≡ (close_of state answer.old).buffer) }
+    ensures { (result ≡ closed_of (close_of state answer.old)) × (answer.new ≡ (close_of state answer.old).buffer) × (result.len ≤ length answer.old) }
 {
-    if answer.len() < ANSWER_ROOM {
+    if let Err(refusal) = state.check(answer.len()) {
         return Closed {
             state,
             len: 0,
-            refusal: SMALL_BUFFER,
+            refusal: refusal.number(),
         };
     }
-    if is_good(state) {
-        let frame = state.frame;
-        let state = between(state.view);
-        if frame.count == 0 {
-            return Closed {
-                state,
-                len: 0,
-                refusal: 0,
-            };
-        }
-        let len = frames::write_refusal(UNFINISHED, answer);
+    let after = State::between(state.view);
+    if state.frame.count == 0 {
         return Closed {
-            state,
-            len,
-            refusal: UNFINISHED,
+            state: after,
+            len: 0,
+            refusal: 0,
         };
     }
+    let refusal = Refusal::Unfinished.number();
     Closed {
-        state,
-        len: 0,
-        refusal: BAD_STATE,
+        state: after,
+        len: frames::write_refusal(refusal, answer),
+        refusal,
     }
 }

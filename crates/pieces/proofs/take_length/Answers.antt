@@ -1,51 +1,34 @@
--- `pieces::take_length` meets its contract: the bytes taken so far are the first of the steps. Assumes nothing.
-use mathlib.Core.Path.{sym, ◌∙◌}
-use mathlib.Core.Bool.{false≢true, true≢false}
-use native.Mathlib.Omega.{arith}
-use Rattle.partial_frame.proofs.Loops.{advance_none, turn_on, turn_full}
+-- `pieces::take_length` meets its contract: each byte is the next step. Assumes nothing.
+use Rattle.std.proofs.Common.{◌≡◌, refl, sym, ap, ◌∙◌, ◌+◌, ℕ, get_or, arith}
+use Rattle.partial_frame.specs.Steps.{after_byte}
+use Rattle.partial_frame.specs.declared.PartialFrame.{PartialFrame}
+use Rattle.partial_frame.proofs.Held.{resized}
+use Rattle.partial_frame.proofs.Loops.{begins_more}
+use Rattle.pieces.proofs.take_length.Goals.{in-0, in-1}
 use Rattle.pieces.proofs.take_length.Goals as goal
 
-pub loop-used-init : goal.loop-used-init
-loop-used-init c = (omega arith, c.requires, advance_none c.args.frame c.args.piece.now)
+-- the two length bytes
+byte_hi : (s : PartialFrame) (b : ℕ) → s.count ≡ 0 → record { count = s.count + 1; hi = b; lo = s.lo; body = s.body } ≡ after_byte s b
+unfolding after_byte
+byte_hi s b e = rw e refl
 
-pub returns-then-frame-ge2 : goal.returns-then-frame-ge2
-returns-then-frame-ge2 c =
-    let l = c.loop-used.invariant in
-    record { ended = λ z. absurd (false≢true z); goes_on = λ z. l.2; short = λ z. l.1; within = l.0; both = λ i z. c.if-frame-ge2.true }
+byte_lo : (s : PartialFrame) (b : ℕ) → s.count ≡ 1 → record { count = s.count + 1; hi = s.hi; lo = b; body = s.body } ≡ after_byte s b
+unfolding after_byte
+byte_lo s b e = rw e refl
 
-pub bounds-piece-used : goal.bounds-piece-used
-bounds-piece-used c = omega arith
+next : {f g : PartialFrame} → f ≡ g → resized f (f.count + 1) f.body ≡ resized g (g.count + 1) g.body
+next e = ap (λ (f : PartialFrame). resized f (f.count + 1) f.body) e
 
-pub with_length_byte-frame-requires : goal.with_length_byte-frame-requires
-with_length_byte-frame-requires c = omega arith
-
-pub overflow_add-used : goal.overflow_add-used
-overflow_add-used c = omega arith
-
-pub returns-then-is_whole : goal.returns-then-is_whole
-returns-then-is_whole c =
+pub loop-byte-preserved : goal.loop-byte-preserved
+loop-byte-preserved c =
+    let l = c.loop-byte in
+    let s = c.args.frame in
     let p = c.args.piece.now in
-    let w = sym c.is_whole.ensures ∙ c.if-is_whole.true in
-    let b = c.with_length_byte-frame in
+    let i = l.invariant.counted in
     record {
-      ended = λ z. turn_full c.loop-used.frame b.result p c.loop-used.used (omega arith) b.ensures c.loop-used.invariant.2 w;
-      goes_on = λ z. absurd (true≢false z);
-      short = λ z. absurd (true≢false z);
-      within = omega arith;
-      both = λ i z. absurd (true≢false z);
+      counted = omega arith;
+      begins = elim c.match-frame.branch [
+        | in-0 w ↦ begins_more s p l.frame _ l.used l.invariant.begins (omega arith) (omega arith) (next w.frame-is ∙ byte_hi l.frame _ w.in-0.is ∙ ap (λ (k : ℕ). after_byte l.frame (get_or p k 0)) (sym i))
+        | in-1 w ↦ begins_more s p l.frame _ l.used l.invariant.begins (omega arith) (omega arith) (next w.frame-is ∙ byte_lo l.frame _ w.in-1.is ∙ ap (λ (k : ℕ). after_byte l.frame (get_or p k 0)) (sym i))
+      ];
     }
-
-pub loop-used-smaller : goal.loop-used-smaller
-loop-used-smaller c = omega arith
-
-pub loop-used-preserved : goal.loop-used-preserved
-loop-used-preserved c =
-    let p = c.args.piece.now in
-    let w = sym c.is_whole.ensures ∙ c.if-is_whole.false in
-    let b = c.with_length_byte-frame in
-    (omega arith, w, turn_on c.loop-used.frame b.result p c.loop-used.used (omega arith) b.ensures c.loop-used.invariant.2 w)
-
-pub returns : goal.returns
-returns c =
-    let l = c.loop-used.invariant in
-    record { ended = λ z. absurd (false≢true z); goes_on = λ z. l.2; short = λ z. l.1; within = l.0; both = λ i z. absurd (omega arith) }
