@@ -3,11 +3,11 @@
 use Prim.Native.Nat.{ℕ, zero, suc, ◌-◌, ◌≤◌, ◌<◌}
 use mathlib.Core.Path.{◌≡◌, refl, sym, ap, ◌∙◌}
 use mathlib.Core.List.{List, [], ◌∷◌}
-use mathlib.Core.Bool.{Bool, true, false, true≢false}
+use mathlib.Core.Bool.{Bool, true, false}
 use native.Mathlib.Omega.{arith}
 use lib.ListN.{length, drop, length-append, length-drop}
 use lib.Dec.{ltb}
-use borrow.Author.Tests.{lt-ltb, le-ltb, ltb-false}
+use borrow.Author.Tests.{le-ltb, ltb-false}
 use Rattle.frames.specs.Frame.{answer_room, whole}
 use Rattle.service.specs.Book.{Book, Reply, book_take}
 use Rattle.service.specs.Service.{is_good, book_of, untouched}
@@ -69,10 +69,11 @@ module _ (s : State) (piece before : List ℕ) where
   unfolding hand_on
   good_reply h g = rw (le-ltb (length before) answer_room h, g) refl
 
-  pub refused : {e : Refusal} → Err e ≡ checked s (length before) → Delivers s piece before (record { state = s; used = 0; len = 0; refusal = number_of e }) before
+  pub refused : {e : Refusal} {n : ℕ} → n ≡ number_of e → Err e ≡ checked s (length before)
+      → Delivers s piece before (record { state = s; used = 0; len = 0; refusal = n }) before
   unfolding hand_on
-  refused {e} h =
-      let f : hand_on s piece before ≡ untouched (number_of e) s before = refused_by s before h (λ n. untouched n s before) _ in
+  refused {e} {n} q h =
+      let f : hand_on s piece before ≡ untouched n s before = refused_by s before h (λ k. untouched k s before) _ ∙ ap (λ k. untouched k s before) (sym q) in
       let bad : is_good s ≡ true → answer_room ≤ length before → ⊥ = λ g i. some_number e (ap numbered h ∙ checked_good s (length before) i g) in
       record {
         reply = sym (ap handed_on_of f);

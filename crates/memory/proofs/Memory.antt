@@ -4,7 +4,12 @@ use mathlib.Core.Path.{◌≡◌, refl, sym, ap, ap₂, ◌∙◌}
 use mathlib.Core.List.{List}
 use mathlib.Core.Bool.{true}
 use native.Mathlib.Omega.{arith}
+use Rattle.std.specs.Prelude.{Result}
 use Rattle.frames.specs.Frame.{refusal_to}
+use Rattle.frames.specs.Numbers.{numbered, number_of}
+use Rattle.frames.specs.declared.Kind.{Kind}
+use Rattle.frames.specs.declared.Refusal.{Refusal}
+use Rattle.frames.specs.declared.Refusal.TheVariants.{TooShort, TooLong, BadVersion, BadKind, BadPayload, BadDirection, BadForm, BadNumber}
 use Rattle.frames.proofs.Refusals.{refusal_by}
 use Rattle.counts.specs.Counts.{is_accepted, is_refused, one_if, most, stopped, added, shown_next}
 use Rattle.counts.specs.declared.Counts.{Counts}
@@ -28,10 +33,20 @@ view_after f m = ap showing (shown_next_lem (answer_with (view_of m) f).number m
 pub view_by_lem : (v : View) (n : ℕ) (body : List ℕ) {k : ℕ} {c : Counts} → k ≡ refusal_to n body → c ≡ shown_next k v.counts → showing c ≡ view_by v n body
 view_by_lem v n body e c = ap showing (c ∙ ap (λ (m : ℕ). shown_next m v.counts) (e ∙ sym (answer_refusal v.counts n body)))
 
+pub some_number : (e : Refusal) → number_of e ≡ 0 → ⊥
+some_number TooShort z = absurd (omega arith)
+some_number TooLong z = absurd (omega arith)
+some_number BadVersion z = absurd (omega arith)
+some_number BadKind z = absurd (omega arith)
+some_number BadPayload z = absurd (omega arith)
+some_number BadDirection z = absurd (omega arith)
+some_number BadForm z = absurd (omega arith)
+some_number BadNumber z = absurd (omega arith)
+
 -- the answer is written, and what follows from its refusal
-pub responds : (v : View) (n : ℕ) (body : List ℕ) {k len : ℕ} {c : Counts} {before after : List ℕ} → k ≡ refusal_to n body → c ≡ shown_next k v.counts
-    → Written (answer_by v n body) len before after → Answers v n body (record { view = showing c; len = len; refusal = k }) before after
-responds v n body e f w = record { written = w; refusal = e ∙ sym (answer_refusal v.counts n body); view = view_by_lem v n body e f }
+pub responds : (v : View) (n : ℕ) (body : List ℕ) {o : Result Kind Refusal} {len : ℕ} {c : Counts} {before after : List ℕ} → numbered o ≡ refusal_to n body
+    → c ≡ shown_next (numbered o) v.counts → Written (answer_by v n body) len before after → Answers v n body (record { view = showing c; len = len; outcome = o }) before after
+responds v n body e f w = record { written = w; number = e ∙ sym (answer_refusal v.counts n body); view = view_by_lem v n body e f }
 
 -- ---- frames that are counted later
 

@@ -6,11 +6,12 @@
 ghost use Rattle.std.specs.Prelude.{◌≡◌, ◌≤◌, length};
 ghost use Rattle.frames.specs.Frame.{answer_room};
 ghost use Rattle.frames.specs.Body.{Body};
+ghost use Rattle.frames.specs.Numbers.{numbered};
 ghost use Rattle.memory.specs.Memory.{start_memory, view_of, is_view, view_added};
 ghost use Rattle.memory.specs.Answers.{Answers};
 
 use counts::Counts;
-use frames::{REPORT, SHEET};
+use frames::{Kind, Refusal};
 
 // A field for each thing that lasts.
 #[repr(C)]
@@ -19,19 +20,30 @@ pub struct View {
     pub counts: Counts,
 }
 
-// What is shown after an answer that was written, its length, and its refusal number or 0.
+// What is shown after an answer that was written, its length, and the frame's kind or what refused it.
 #[derive(Clone, Copy)]
 pub struct Answered {
     pub view: View,
     pub len: usize,
-    pub refusal: u8,
+    pub outcome: Result<Kind, Refusal>,
+}
+
+// The number of an outcome: that of the refusal, or 0.
+pub fn number(outcome: Result<Kind, Refusal>) -> u8
+    ensures { result ≡ numbered outcome }
+{
+    match outcome {
+        Ok(_) => 0,
+        Err(refusal) => refusal.number(),
+    }
 }
 
 pub fn start() -> View
     ensures { result ≡ view_of start_memory }
 {
-    let counts = counts::none();
-    View { counts }
+    View {
+        counts: counts::none(),
+    }
 }
 
 pub fn is_view(view: View) -> bool
@@ -45,39 +57,18 @@ pub fn respond(view: View, n: usize, body: &[u8], answer: &mut [u8]) -> Answered
     requires { Body n body.now × (answer_room ≤ length answer.old) }
     ensures { Answers view n body.now result answer.old answer.new }
 {
-    let refusal = frames::refusal_to(n, body);
-    let counts = counts::counted(view.counts, refusal);
-    let after = View { counts };
-    if refusal != 0 {
-        let len = frames::write_refusal(refusal, answer);
-        return Answered {
-            view: after,
-            len,
-            refusal,
-        };
-    }
-    let kind = body[1];
-    if kind == REPORT {
-        let len = answers::write_report(view.counts, answer);
-        return Answered {
-            view: after,
-            len,
-            refusal,
-        };
-    }
-    if kind == SHEET {
-        let len = answers::write_sheet(n, body, answer);
-        return Answered {
-            view: after,
-            len,
-            refusal,
-        };
-    }
-    let len = answers::write_answer(n, body, answer);
+    let outcome = frames::refusal_to(n, body);
+    let counts = counts::counted(view.counts, number(outcome));
+    let len = match outcome {
+        Err(refusal) => frames::write_refusal(refusal.number(), answer),
+        Ok(Kind::Report) => answers::write_report(view.counts, answer),
+        Ok(Kind::Sheet) => answers::write_sheet(n, body, answer),
+        Ok(_) => answers::write_answer(n, body, answer),
+    };
     Answered {
-        view: after,
+        view: View { counts },
         len,
-        refusal,
+        outcome,
     }
 }
 
@@ -85,6 +76,7 @@ pub fn respond(view: View, n: usize, body: &[u8], answer: &mut [u8]) -> Answered
 pub fn add(view: View, accepted: u64, refused: u64) -> View
     ensures { result ≡ view_added accepted refused view }
 {
-    let counts = counts::add(view.counts, accepted, refused);
-    View { counts }
+    View {
+        counts: counts::add(view.counts, accepted, refused),
+    }
 }

@@ -2,10 +2,9 @@
 -- service means: crates/delivery shows that the book takes a run frame by frame. Definitions only.
 use Rattle.std.specs.Prelude.{ℕ, ◌+◌, ◌-◌, ◌≤◌, ◌≡◌, List, [], ◌++◌, length, take, drop}
 use Rattle.frames.specs.Frame.{answer_room, body_length}
-use Rattle.memory.specs.Memory.{answer_with, view_added, view_with}
+use Rattle.memory.specs.Memory.{answer_with, view_with}
 use Rattle.memory.specs.declared.View.{View}
 use Rattle.runs.specs.declared.Run.{Run}
-use Rattle.runs.specs.declared.Counted.{Counted}
 
 -- whole frames, their answers, and what is shown after them; before each frame there is room for one more answer
 pub data Frames (room : ℕ) (start : View) : List ℕ → List ℕ → View → Type 0 where
@@ -22,8 +21,3 @@ pub record Answers (v : View) (piece : List ℕ) (r : Run) (before after : List 
   pub fits : r.len ≤ length before
   pub len : r.len ≡ length answers
   pub buffer : after ≡ answers ++ drop r.len before
-
--- the same with frames that are still to be added to what is shown; each has two bytes at least
-pub record AnswersCounted (v : View) (piece : List ℕ) (r : Counted) (before after : List ℕ) : Type 0 where
-  pub run : Answers v piece (record { view = view_added r.accepted r.refused r.view; used = r.used; len = r.len }) before after
-  pub few : r.accepted + r.refused ≤ r.used

@@ -4,9 +4,9 @@
 // in that order at the buffer's front.
 #![tactic(auto)]
 
-ghost use Rattle.runs.specs.Runs.{Answers, AnswersCounted};
+ghost use Rattle.runs.specs.Runs.{Answers};
 
-use frames::{ANSWER_ROOM, REPORT};
+use frames::{ANSWER_ROOM, Kind};
 use memory::View;
 
 // A run of whole frames: what is shown after it, its bytes, and the bytes of the answers to it.
@@ -17,21 +17,11 @@ pub struct Run {
     pub len: usize,
 }
 
-// The same, where so many accepted and refused frames are still to be added to what is shown.
-#[derive(Clone, Copy)]
-struct Counted {
-    view: View,
-    accepted: u64,
-    refused: u64,
-    used: usize,
-    len: usize,
-}
-
 // Answers the whole frames at the piece's front while there is room for one more answer. They are read where they stand: a state for
 // each of them would be copied several times. Frames are counted here, and added where a report asks for it, and respond is called for
 // reports and sheets alone: what is shown goes through memory then, which takes longer than a refusal.
-fn answer_frames(view: View, piece: &[u8], answers: &mut [u8]) -> Counted
-    ensures { AnswersCounted view piece.now result answers.old answers.new }
+pub fn answer_run(view: View, piece: &[u8], answers: &mut [u8]) -> Run
+    ensures { Answers view piece.now result answers.old answers.new }
 {
     let mut view = view;
     let mut accepted = 0;
@@ -39,63 +29,36 @@ fn answer_frames(view: View, piece: &[u8], answers: &mut [u8]) -> Counted
     let mut used = 0;
     let mut len = 0;
     while 2 <= piece.len() - used {
-        let room = answers.len() - len;
-        if room < ANSWER_ROOM {
-            return Counted {
-                view,
-                accepted,
-                refused,
-                used,
-                len,
-            };
-        }
+        let n = usize::from(words::read_u16(piece, used));
         let from = used + 2;
-        let n = words::read_u16(piece, used) as usize;
-        if piece.len() - from < n {
-            return Counted {
-                view,
-                accepted,
-                refused,
-                used,
-                len,
-            };
+        if answers.len() - len < ANSWER_ROOM || piece.len() - from < n {
+            break;
         }
         let to = from + n;
         let body = &piece[from..to];
-        let refusal = frames::refusal_to(n, body);
-        if refusal != 0 {
-            len += frames::write_refusal(refusal, &mut answers[len..]);
-            refused += 1;
-        } else if body[1] >= REPORT {
-            view = memory::add(view, accepted, refused);
-            accepted = 0;
-            refused = 0;
-            let answered = memory::respond(view, n, body, &mut answers[len..]);
-            view = answered.view;
-            len += answered.len;
-        } else {
-            len += answers::write_answer(n, body, &mut answers[len..]);
-            accepted += 1;
+        match frames::refusal_to(n, body) {
+            Err(refusal) => {
+                len += frames::write_refusal(refusal.number(), &mut answers[len..]);
+                refused += 1;
+            }
+            Ok(Kind::Report | Kind::Sheet) => {
+                view = memory::add(view, accepted, refused);
+                accepted = 0;
+                refused = 0;
+                let answered = memory::respond(view, n, body, &mut answers[len..]);
+                view = answered.view;
+                len += answered.len;
+            }
+            Ok(_) => {
+                len += answers::write_answer(n, body, &mut answers[len..]);
+                accepted += 1;
+            }
         }
         used = to;
     }
-    Counted {
-        view,
-        accepted,
-        refused,
+    Run {
+        view: memory::add(view, accepted, refused),
         used,
         len,
-    }
-}
-
-pub fn answer_run(view: View, piece: &[u8], answers: &mut [u8]) -> Run
-    ensures { Answers view piece.now result answers.old answers.new }
-{
-    let counted = answer_frames(view, piece, answers);
-    let view = memory::add(counted.view, counted.accepted, counted.refused);
-    Run {
-        view,
-        used: counted.used,
-        len: counted.len,
     }
 }

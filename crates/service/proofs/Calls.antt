@@ -148,6 +148,16 @@ module _ (s : State) (buffer : List ℕ) {e : Refusal} (h : Err e ≡ checked s 
   unfolding close_of
   close_refused = refused_by (λ n. untouched n s buffer) _
 
+-- refusal 7, by the state
+module _ (s : State) (buffer : List ℕ) (e : is_small buffer ≡ false) (f : is_good s ≡ false) where
+  pub take_bad : (p : List ℕ) → take_of s p buffer ≡ untouched 7 s buffer
+  unfolding take_of
+  take_bad p = rw (e, f) refl
+
+  pub close_bad : close_of s buffer ≡ untouched 7 s buffer
+  unfolding close_of
+  close_bad = rw (e, f) refl
+
 -- a good state is that of a book, which is unfinished
 pub shown_by : (s : State) → length s.frame.body ≡ longest_body → Sized s.view → is_good s ≡ true → (s ≡ state_of (book_of s)) × (whole (book_of s).held ≡ false)
 unfolding is_good book_of

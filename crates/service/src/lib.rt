@@ -133,7 +133,7 @@ fn take_good(state: State, piece: &[u8], answer: &mut [u8]) -> Taken
         state: State::between(answered.view),
         used,
         len: answered.len,
-        refusal: answered.refusal,
+        refusal: memory::number(answered.outcome),
     }
 }
 

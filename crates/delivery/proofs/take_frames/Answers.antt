@@ -9,28 +9,8 @@ pub loop-used-init : goal.loop-used-init
 loop-used-init c =
     going (book_of c.args.state) c.args.piece.now c.args.answers.now c.args.state c.requires.0 c.requires.1
 
-pub overflow_sub-answers : goal.overflow_sub-answers
-overflow_sub-answers c = omega (arith, out_length c.loop-used.invariant)
-
-pub shape_of-answers-then-answers-len-lt-ANSWER_ROOM : goal.shape_of-answers-then-answers-len-lt-ANSWER_ROOM
-shape_of-answers-then-answers-len-lt-ANSWER_ROOM c = out_length c.loop-used.invariant
-
 pub returns-then-answers-len-lt-ANSWER_ROOM : goal.returns-then-answers-len-lt-ANSWER_ROOM
 returns-then-answers-len-lt-ANSWER_ROOM c = going_full c.loop-used.invariant c.if-answers-len-lt-ANSWER_ROOM.true
-
-pub slice_bounds-take-count : goal.slice_bounds-take-count
-slice_bounds-take-count c = omega arith
-
-pub slice_bounds-take-start : goal.slice_bounds-take-start
-slice_bounds-take-start c = omega arith
-
-pub slice_bounds-take-end : goal.slice_bounds-take-end
-slice_bounds-take-end c = omega arith
-
-pub slice_bounds-take-count-in-loop-used : goal.slice_bounds-take-count-in-loop-used
-slice_bounds-take-count-in-loop-used c = omega (arith, out_length c.loop-used.invariant)
-
--- ---- after take
 
 pub overflow_add-used : goal.overflow_add-used
 overflow_add-used c =
@@ -51,18 +31,6 @@ pub loop-used-preserved : goal.loop-used-preserved
 loop-used-preserved c =
     (one_take c.loop-used.invariant c.loop-used-test.true (omega arith) c.take-taken.result _ c.take-taken.ensures.0 c.take-taken.ensures.1).going
 
--- ---- the run behind it
-
-pub slice_bounds-answer_run-count : goal.slice_bounds-answer_run-count
-slice_bounds-answer_run-count c =
-    let t = one_take c.loop-used.invariant c.loop-used-test.true (omega arith) c.take-taken.result _ c.take-taken.ensures.0 c.take-taken.ensures.1 in
-    omega (arith, t.going.within)
-
-pub slice_bounds-answer_run-start : goal.slice_bounds-answer_run-start
-slice_bounds-answer_run-start c =
-    let t = one_take c.loop-used.invariant c.loop-used-test.true (omega arith) c.take-taken.result _ c.take-taken.ensures.0 c.take-taken.ensures.1 in
-    omega (arith, t.going.within)
-
 pub slice_bounds-answer_run-count-then-used-piece : goal.slice_bounds-answer_run-count-then-used-piece
 slice_bounds-answer_run-count-then-used-piece c =
     let t = one_take c.loop-used.invariant c.loop-used-test.true (omega arith) c.take-taken.result _ c.take-taken.ensures.0 c.take-taken.ensures.1 in
@@ -72,12 +40,6 @@ pub slice_bounds-answer_run-start-then-used-piece : goal.slice_bounds-answer_run
 slice_bounds-answer_run-start-then-used-piece c =
     let t = one_take c.loop-used.invariant c.loop-used-test.true (omega arith) c.take-taken.result _ c.take-taken.ensures.0 c.take-taken.ensures.1 in
     omega (arith, t.going.room, out_length t.going)
-
-pub overflow_add-used-then-used-piece : goal.overflow_add-used-then-used-piece
-overflow_add-used-then-used-piece c =
-    let t = one_take c.loop-used.invariant c.loop-used-test.true (omega arith) c.take-taken.result _ c.take-taken.ensures.0 c.take-taken.ensures.1 in
-    let r = going_run t.going (t.no_frame c.if-taken-gt0.true) c.answer_run-run.result _ c.answer_run-run.ensures c.between-state.ensures in
-    omega (arith, c.well_formed.1.0.0, r.within)
 
 pub loop-used-preserved-then-used-piece : goal.loop-used-preserved-then-used-piece
 loop-used-preserved-then-used-piece c =
@@ -95,8 +57,5 @@ loop-used-smaller-then-used-piece c =
     let t = one_take c.loop-used.invariant c.loop-used-test.true (omega arith) c.take-taken.result _ c.take-taken.ensures.0 c.take-taken.ensures.1 in
     omega (arith, c.loop-used-test.true, t.some)
 
-pub shape_of-answers : goal.shape_of-answers
-shape_of-answers c = out_length c.loop-used.invariant
-
-pub returns : goal.returns
-returns c = going_empty c.loop-used.invariant c.loop-used-test.false
+pub returns-after-loop-used : goal.returns-after-loop-used
+returns-after-loop-used c = going_empty c.loop-used.invariant c.loop-used-test.false

@@ -1,7 +1,0 @@
--- `memory::start` meets its contract. Assumes nothing.
-use mathlib.Core.Path.{ap}
-use Rattle.memory.proofs.Memory.{showing}
-use Rattle.memory.proofs.start.Goals as goal
-
-pub returns : goal.returns
-returns c = ap showing c.none-counts.ensures
