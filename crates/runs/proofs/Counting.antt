@@ -82,8 +82,3 @@ module _ {v₀ v : View} {i j used len : ℕ} {piece out₀ out : List ℕ} (s :
             (one_more-frame s.run n h en room a w (subst (λ (y : View). Responds y n body a buffer w) e ew));
         few = omega arith;
       }
-
--- what is still to be added, added
-pub all_added : {v v₀ w : View} {piece before after : List ℕ} {i j used len : ℕ} → Counted v₀ piece w i j used len before after → v ≡ view_added i j w
-    → Answers v₀ piece (record { view = v; used = used; len = len }) before after
-all_added {v} {v₀} {w} {piece} {before} {after} {i} {j} {used} {len} s e = subst (λ (y : View). Answers v₀ piece (record { view = y; used = used; len = len }) before after) (sym e) s.run

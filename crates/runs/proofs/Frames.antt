@@ -24,11 +24,6 @@ use Rattle.runs.specs.Runs.{Frames, Answers}
 abbrev pub body_at : List ℕ → ℕ → ℕ → List ℕ
 body_at piece used n = take (used + 2 + n - (used + 2)) (drop (used + 2) piece)
 
-pub body_length_lem : (piece : List ℕ) (used n : ℕ) → used + 2 + n ≤ length piece → length (body_at piece used n) ≡ n
-body_length_lem piece used n h =
-    let k : used + 2 + n - (used + 2) ≡ n = omega arith in
-    rw k (length-take-le n (drop (used + 2) piece) (omega (arith, length-drop (used + 2) piece)))
-
 module _ (piece : List ℕ) (used n : ℕ) (h : used + 2 + n ≤ length piece) (en : n ≡ number_at 2 piece used) where
   abbrev p : List ℕ
   p = drop used piece

@@ -149,14 +149,13 @@ module _ (s : State) (buffer : List ℕ) {e : Refusal} (h : Err e ≡ checked s 
   close_refused = refused_by (λ n. untouched n s buffer) _
 
 -- refusal 7, by the state
-module _ (s : State) (buffer : List ℕ) (e : is_small buffer ≡ false) (f : is_good s ≡ false) where
-  pub take_bad : (p : List ℕ) → take_of s p buffer ≡ untouched 7 s buffer
-  unfolding take_of
-  take_bad p = rw (e, f) refl
+pub take_bad : (s : State) (p buffer : List ℕ) → is_small buffer ≡ false → is_good s ≡ false → take_of s p buffer ≡ untouched 7 s buffer
+unfolding take_of
+take_bad s p buffer e f = rw (e, f) refl
 
-  pub close_bad : close_of s buffer ≡ untouched 7 s buffer
-  unfolding close_of
-  close_bad = rw (e, f) refl
+pub close_bad : (s : State) (buffer : List ℕ) → is_small buffer ≡ false → is_good s ≡ false → close_of s buffer ≡ untouched 7 s buffer
+unfolding close_of
+close_bad s buffer e f = rw (e, f) refl
 
 -- a good state is that of a book, which is unfinished
 pub shown_by : (s : State) → length s.frame.body ≡ longest_body → Sized s.view → is_good s ≡ true → (s ≡ state_of (book_of s)) × (whole (book_of s).held ≡ false)
@@ -228,9 +227,6 @@ module _ (s : State) (shown : s ≡ state_of (book_of s)) (unfinished : whole (b
 pub taken_by : {x y : Reply} → y ≡ x → (taken_of x ≡ taken_of y) × (x.buffer ≡ y.buffer)
 taken_by e = (ap taken_of (sym e), ap (λ (r : Reply). r.buffer) (sym e))
 
-pub closed_by : {x y : Reply} → y ≡ x → (closed_of x ≡ closed_of y) × (x.buffer ≡ y.buffer)
-closed_by e = (ap closed_of (sym e), ap (λ (r : Reply). r.buffer) (sym e))
-
 held_none : (n : ℕ) (s : PartialFrame) (c : Memory) → n ≡ 0 → closed_with (first_bytes n s) c ≡ record { used = 0; answer = []; number = 0; book = emptied c }
 held_none n s c e = rw e refl
 
@@ -273,7 +269,3 @@ close_most s buffer {r} q = rw (ap (λ (x : Closed). x.len) q) (go (is_small buf
 
 pub fresh_good : is_good fresh_state ≡ true
 fresh_good = ap is_good (sym fresh_whole) ∙ good_state empty_book whole_none
-
--- the same body, answered
-pub answered_as : {v : View} {n k : ℕ} {body whole before after : List ℕ} {r : Answered} → n ≡ k → body ≡ whole → Answers v n body r before after → Answers v k whole r before after
-answered_as {v} {n} {k} {body} {whole} {before} {after} {r} e f a = subst₂ (λ (x : ℕ) (y : List ℕ). Answers v x y r before after) e f a
