@@ -12,6 +12,7 @@ use operands::NAN;
 use rounding::{INFINITY, SIGN};
 
 // The pattern of x. The language's own conversions are undefined at a NaN, so that is tested for first.
+#[tactic(auto, using(crate::proofs::Floats::a_nan))]
 pub fn to_bits(x: f64) -> u64
     ensures { result ≡ to_bits binary64 x }
 {
@@ -44,6 +45,7 @@ pub fn fma(x: f64, y: f64, z: f64) -> f64
 }
 
 // fma on patterns: a chain of them converts nothing between its steps.
+#[tactic(auto, using(crate::proofs::Floats::fused_read))]
 pub fn fma_bits(x: u64, y: u64, z: u64) -> u64
     ensures { of_bits binary64 result ≡ fused_multiply_add Nearest (of_bits binary64 x) (of_bits binary64 y) (of_bits binary64 z) }
 {
@@ -70,6 +72,7 @@ pub fn roundeven(x: f64) -> f64
 }
 
 // The greatest whole number not above x.
+#[tactic(auto, using(crate::proofs::Floats::floor_floats))]
 pub fn floor(x: f64) -> f64
     ensures { result ≡ round_to_integral Down x }
 {
