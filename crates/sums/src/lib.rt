@@ -11,7 +11,7 @@ pub fn sum(a: u64, b: u64) -> u64
     ensures { result ≡ sum_bits a b }
 {
     let s = math::from_bits(a) + math::from_bits(b);
-    if s != s {
+    if s.is_nan() {
         return multiply_add::fused_nearest(a, ONE, b);
     }
     math::to_bits(s)
