@@ -48,8 +48,9 @@ fn write_results(kind: Kind, payload: &[u8], n: usize, out: &mut [u8])
     requires { (kind_number kind ≡ 5 → ⊥) × (items_from (kind_number kind) + n * item_bytes (kind_number kind) ≤ length payload.now) × (8 * n ≤ length out.old) }
     ensures { out.new ≡ results_of (kind_number kind) n payload.now ++ drop (8 * n) out.old }
 {
-    let start = kind.items_from();
-    let size = kind.item_bytes();
+    let number = u8::from(kind);
+    let start = frames::items_from(number);
+    let size = frames::item_bytes(number);
     let dir = direction_in(kind, payload);
     for i in 0..n {
         let x = result_at(kind, dir, payload, start + i * size);
@@ -84,7 +85,7 @@ pub fn write_answer(n: usize, body: &[u8], answer: &mut [u8]) -> usize
     ensures { Written (accepting (items_in n body.now)) result answer.old answer.new }
 {
     let kind = Kind::try_from(body[1]).unwrap();
-    let count = kind.item_count(n - 2);
+    let count = frames::item_count(body[1], n - 2);
     write_items(kind, count, frames::payload(body), answer)
 }
 
@@ -94,7 +95,7 @@ pub fn write_sheet(n: usize, body: &[u8], answer: &mut [u8]) -> usize
     requires { Body n body.now × (refusal_to n body.now ≡ 0) × (get_or body.now 1 0 ≡ 5) × (answer_room ≤ length answer.old) }
     ensures { Written (accepting (items_in n body.now)) result answer.old answer.new }
 {
-    let count = Kind::Sheet.item_count(n - 2);
+    let count = frames::item_count(Kind::Sheet as u8, n - 2);
     let mut values = [0u8; VALUES];
     sheet_values::write_values(frames::payload(body), count, &mut values);
     write_items(Kind::Scores, count, &values, answer)

@@ -94,44 +94,15 @@ impl TryFrom<u8> for Kind {
     }
 }
 
+impl From<Kind> for u8 {
+    ghost from_gives = { λ kind number. number ≡ kind_number kind };
+
+    fn from(kind: Kind) -> u8 {
+        kind as u8
+    }
+}
+
 impl Kind {
-    // The bytes that precede the items of a payload.
-    #[tactic(auto, unfolding(crate::specs::Frame::kind_of))]
-    pub fn items_from(self) -> usize
-        ensures { (result ≡ items_from (kind_number self)) × (result ≤ 1) }
-    {
-        match self {
-            Kind::Directed => 1,
-            _ => 0,
-        }
-    }
-
-    // The bytes of one item. A sheet's are asked for apart, so that lengths are divided by constants.
-    #[tactic(auto, unfolding(crate::specs::Frame::kind_of))]
-    pub fn item_bytes(self) -> usize
-        requires { kind_number self ≡ 5 → ⊥ }
-        ensures { (result ≡ item_bytes (kind_number self)) × (8 ≤ result) × (result ≤ 24) }
-    {
-        match self {
-            Kind::Scores => WEIGHT_BYTES,
-            _ => TRIPLE_BYTES,
-        }
-    }
-
-    // The items in a payload of n bytes.
-    #[tactic(auto, unfolding(crate::specs::Frame::kind_of))]
-    pub fn item_count(self, n: usize) -> usize
-        requires { items_from (kind_number self) ≤ n }
-        ensures { (result ≡ item_count (kind_number self) n) × (8 * result ≤ n) }
-    {
-        match self {
-            Kind::Scores => n / WEIGHT_BYTES,
-            Kind::Directed => (n - 1) / TRIPLE_BYTES,
-            Kind::Fused | Kind::Report => n / TRIPLE_BYTES,
-            Kind::Sheet => n / LINE_BYTES,
-        }
-    }
-
     // A kind's own refusal of a payload before 5.
     #[tactic(auto, unfolding(crate::specs::Frame::kind_of))]
     fn check_direction(self, payload: &[u8]) -> Result<(), Refusal>
@@ -156,6 +127,43 @@ impl Kind {
             Kind::Sheet => no_items(0, LINE_BYTES, n),
         }
     }
+}
+
+// The bytes that precede the items of a kind's payload.
+#[tactic(auto, unfolding(crate::specs::Frame::kind_of))]
+pub fn items_from(kind: u8) -> usize
+    ensures { (result ≡ items_from kind) × (result ≤ 1) }
+{
+    if kind == Kind::Directed as u8 { 1 } else { 0 }
+}
+
+// The bytes of one item of a kind that is no sheet. A sheet's are asked for apart, so that lengths are divided by constants.
+#[tactic(auto, unfolding(crate::specs::Frame::kind_of))]
+pub fn item_bytes(kind: u8) -> usize
+    requires { kind ≡ 5 → ⊥ }
+    ensures { (result ≡ item_bytes kind) × (8 ≤ result) × (result ≤ 24) }
+{
+    if kind == Kind::Scores as u8 {
+        WEIGHT_BYTES
+    } else {
+        TRIPLE_BYTES
+    }
+}
+
+// The items in a kind's payload of n bytes.
+#[tactic(auto, unfolding(crate::specs::Frame::kind_of))]
+pub fn item_count(kind: u8, n: usize) -> usize
+    requires { items_from kind ≤ n }
+    ensures { (result ≡ item_count kind n) × (8 * result ≤ n) }
+{
+    // Apart too, for the same reason.
+    if kind == Kind::Scores as u8 {
+        return n / WEIGHT_BYTES;
+    }
+    if kind == Kind::Sheet as u8 {
+        return n / LINE_BYTES;
+    }
+    (n - items_from(kind)) / item_bytes(kind)
 }
 
 // Whether in n bytes nothing comes behind what precedes the items, or no multiple of an item.

@@ -1,6 +1,6 @@
 -- `answers::write_answer` meets its contract. Assumes nothing.
-use Rattle.std.proofs.Common.{rules, ◌≡◌, sym, ap, subst, ◌∙◌, ℕ, ◌+◌, ◌*◌, ◌-◌, ◌≤◌, true, length, get_or, arith, Result, Ok, Err, IsOk}
-use Rattle.frames.specs.Frame.{is_kind, items_from, item_bytes, item_count}
+use Rattle.std.proofs.Common.{rules, ◌≡◌, sym, subst, ◌∙◌, ℕ, ◌+◌, ◌*◌, ◌≤◌, true, length, get_or, arith, Result, Ok, Err, IsOk}
+use Rattle.frames.specs.Frame.{is_kind, items_from, item_bytes}
 use Rattle.frames.specs.Numbers.{kind_number, IsKind}
 use Rattle.frames.specs.declared.Kind.{Kind}
 use Rattle.frames.specs.declared.Refusal.{Refusal}
@@ -33,8 +33,7 @@ overflow_sub-n c =
 
 pub item_count-count-requires : goal.item_count-count-requires
 item_count-count-requires c =
-    let e = kind_is (get_or c.args.body.now 1 0) {k = c.unwrap-kind.result} c.try_from.ensures c.unwrap-kind.ensures in
-    subst (λ (k : ℕ). items_from k ≤ c.args.n - 2) (sym e) (good_items c.args.n c.args.body.now c.requires.1)
+    good_items c.args.n c.args.body.now c.requires.1
 
 pub write_items-requires : goal.write_items-requires
 write_items-requires c =
@@ -42,7 +41,7 @@ write_items-requires c =
     let b = c.args.body.now in
     let e = kind_is (get_or b 1 0) {k = c.unwrap-kind.result} c.try_from.ensures c.unwrap-kind.ensures in
     let count = c.item_count-count.result in
-    let w = payload_items n b _ c.requires.0 c.requires.1 (payload_contents _ _ c.payload.ensures) (c.item_count-count.ensures.0 ∙ ap (λ (k : ℕ). item_count k (n - 2)) e) in
+    let w = payload_items n b _ c.requires.0 c.requires.1 (payload_contents _ _ c.payload.ensures) c.item_count-count.ensures.0 in
     (λ z. c.requires.2 (sym e ∙ z), subst (λ (k : ℕ). items_from k + count * item_bytes k ≤ length c.payload.result.now) (sym e) w.0, w.1, c.requires.3)
 
 pub returns : goal.returns
@@ -52,5 +51,5 @@ returns c =
     let b = c.args.body.now in
     let e = kind_is (get_or b 1 0) {k = c.unwrap-kind.result} c.try_from.ensures c.unwrap-kind.ensures in
     let p = payload_contents _ _ c.payload.ensures in
-    let k = c.item_count-count.ensures.0 ∙ ap (λ (m : ℕ). item_count m (n - 2)) e in
+    let k = c.item_count-count.ensures.0 in
     written_as (λ i. accepting (results_of (e i) (k i) (p i))) c.write_items.ensures

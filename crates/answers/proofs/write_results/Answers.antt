@@ -1,5 +1,6 @@
 -- `answers::write_results` meets its contract. Assumes nothing.
 use Rattle.std.proofs.Common.{◌≡◌, refl, sym, ap, ◌∙◌, ℕ, ◌+◌, ◌*◌, List, ◌++◌, drop, arith}
+use Rattle.frames.specs.Frame.{items_from, item_bytes}
 use Rattle.frames.specs.Numbers.{kind_number}
 use Rattle.words.specs.Bytes.{words_of}
 use Rattle.words.proofs.Words.{one_more-word}
@@ -17,7 +18,7 @@ loop-i-preserved c =
     let kind = kind_number c.args.kind in
     let p = c.args.payload.now in
     one_more-word (item_result kind p) l.i l.out c.args.out.now l.invariant (omega arith) (8 * l.i) _ c.write_u64.new.out refl
-    (c.result_at-x.ensures ∙ (λ j. result_at kind p (c.items_from-start.ensures.0 j + l.i * c.item_bytes-size.ensures.0 j)))
+    (c.result_at-x.ensures ∙ (λ j. result_at kind p ((c.items_from-start.ensures.0 ∙ ap items_from c.from-number.ensures) j + l.i * (c.item_bytes-size.ensures.0 ∙ ap item_bytes c.from-number.ensures) j)))
     c.write_u64.ensures
 
 pub returns : goal.returns
