@@ -83,9 +83,6 @@ pub advance_full : (s : PartialFrame) (p : List ℕ) (i : ℕ) → i < length p 
     → further i (advance s (drop i p)) ≡ record { frame = after_byte s (get_or p i 0); used = i + 1 }
 advance_full s p i h e = rw (drop-cons p i 0 h, e) refl
 
-pub advance_end : (s : PartialFrame) (p : List ℕ) (i : ℕ) → length p ≤ i → further i (advance s (drop i p)) ≡ record { frame = s; used = i }
-advance_end s p i h = rw (drop_of_length-le p h) (ap (λ (n : ℕ). record { frame = s; used = n }) (omega arith))
-
 pub short_test : (s : PartialFrame) → whole_in s ≡ false → ltb s.count (2 + length_in s) ≡ true
 short_test s e = lt-ltb _ _ (short_count s e)
 

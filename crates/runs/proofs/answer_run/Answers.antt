@@ -1,5 +1,5 @@
 -- `runs::answer_run` meets its contract: each turn is one whole frame more, refused, shown to what lasts, or accepted. Assumes nothing.
-use Rattle.std.proofs.Common.{◌≡◌, ℕ, sym, ap, ◌∙◌, arith, rules, get_or}
+use Rattle.std.proofs.Common.{sym, ap, ◌∙◌, arith, rules}
 use Rattle.frames.specs.Numbers.{numbered}
 use Rattle.memory.proofs.Memory.{some_number}
 use Rattle.runs.proofs.Counting.{none_counted_lem, one_refused, one_accepted, one_shown}
