@@ -3,7 +3,7 @@ use Prim.Native.Nat.{ℕ, zero, suc, ◌+◌, ◌*◌, ◌-◌, ◌≤◌, ◌<�
 use mathlib.Core.Path.{◌≡◌, refl, sym, ap, ◌∙◌}
 use mathlib.Core.List.{List, [], ◌∷◌}
 use mathlib.Core.Bool.{Bool, true, false, true≢false, cond, ◌&&◌}
-use lib.ListN.{length, set, take, drop, length-drop, get_or, drop_of_length-le}
+use lib.ListN.{length, set, take, drop, length-drop, get_or}
 use lib.Seq.{drop-cons}
 use Rattle.std.proofs.Common.{max}
 use Rattle.std.specs.List.{fold}
