@@ -1,10 +1,9 @@
--- `splits::hand_over` is safe and ends: each take uses some bytes of the piece. Assumes nothing.
-use Prim.Native.Nat.{◌≤◌, ◌-◌}
-use lib.ListN.{length}
+-- `splits::hand_over` meets its contract: each take uses some bytes of what has come. Assumes nothing.
+use Rattle.std.proofs.Common.{◌≤◌, ◌-◌, length}
 use Rattle.splits.proofs.hand_over.Given as goal
 
-abbrev pub invariant-loop-at : goal.invariant-loop-at
-invariant-loop-at l = l.at ≤ length l.come
+abbrev pub invariant-loop-run : goal.invariant-loop-run
+invariant-loop-run l = l.run.at ≤ length l.come
 
-abbrev pub decreases-loop-at : goal.decreases-loop-at
-decreases-loop-at l = length l.come - l.at
+abbrev pub decreases-loop-run : goal.decreases-loop-run
+decreases-loop-run l = length l.come - l.run.at
