@@ -47,11 +47,9 @@ pub fn score(x: u64) -> u64
     ensures { result ≡ score_bits x }
 {
     let y = exp2m1(math::from_bits(x));
-    if y != y {
-        // Behind the steps, and not before: where their result is a number, this takes no test more.
-        if INFINITY < x % SIGN {
-            return quiet(x);
-        }
+    // Behind the steps, and not before: where their result is a number, the weight takes no test more.
+    if y.is_nan() && INFINITY < x % SIGN {
+        return quiet(x);
     }
     math::to_bits(y)
 }
