@@ -5,7 +5,6 @@
 #![tactic(auto)]
 
 ghost use Rattle.std.specs.Prelude.{◌≡◌, ℕ, ◌+◌, ◌-◌, ◌≤◌, ◌<◌, length};
-ghost use Rattle.std.proofs.Common.{rules};
 ghost use Rattle.reply.specs.Told.{numbered};
 ghost use Rattle.constant.specs.Constant.{exactly, constant_of};
 ghost use Rattle.constant.specs.Machine.{refusal_of, with_digit, with_decimal, pushed, read_from, unread, Within, most_places, Holds, Finishes, whole_bits, RepliesBits, RepliesPlaced};
@@ -25,8 +24,6 @@ pub enum ConstantError {
 
 impl Refusal for ConstantError {
     ghost number = { refusal_of };
-
-    ghost counts = { Prim.search rules };
 
     fn number(self) -> u8 {
         self as u8

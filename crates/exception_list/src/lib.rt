@@ -5,7 +5,6 @@
 #![tactic(auto)]
 
 ghost use Rattle.std.specs.Prelude.{◌≡◌, ◌≤◌, ◌-◌, length};
-ghost use Rattle.std.proofs.Common.{rules};
 ghost use Rattle.exceptions.specs.Lookup.{find, nth, entries_from};
 ghost use Rattle.exception_list.specs.List.{is_good, may_follow, refusal_of, number_of, refused};
 
@@ -23,8 +22,6 @@ pub enum ListError {
 
 impl Refusal for ListError {
     ghost number = { number_of };
-
-    ghost counts = { Prim.search rules };
 
     fn number(self) -> u8 {
         match self {

@@ -4,25 +4,21 @@
 // tell promises the form of a reply for C: a number, and a result behind a pointer (specs/Told.antt).
 #![tactic(auto)]
 
-ghost use Rattle.std.specs.Prelude.{◌≡◌, ℕ, ◌<◌, IsOk};
+ghost use Rattle.std.specs.Prelude.{◌≡◌, ℕ};
 ghost use Rattle.reply.specs.Told.{numbered, number, content};
 
-// An error that the documents give a number, which is not that of a float.
+// An error that the documents give a number.
 pub trait Refusal: Copy {
     ghost number: { Self → ℕ };
 
     fn number(self) -> u8
         ensures { result ≡ number self };
-
-    ghost counts: { (e : Self) → 0 < number e };
 }
 
 // Tells C of a reply. Where it is a refusal, the result keeps its content.
 pub fn tell<E: Refusal>(reply: Result<u64, E>, out: &mut u64) -> u8
     ensures number { result ≡ number (numbered E.number reply) }
     ensures content { out.new ≡ content (numbered E.number reply) out.old }
-    // Only a float has the number 0.
-    ensures apart { result ≡ 0 → IsOk reply }
 {
     match reply {
         Err(refusal) => refusal.number(),

@@ -5,7 +5,6 @@
 
 ghost use Rattle.std.specs.Prelude.{◌≡◌, ℕ, ◌+◌, ◌-◌, ◌*◌, ◌%◌, ◌^◌, ◌≤◌, ◌<◌, true, false};
 ghost use Rattle.std.specs.Result.{result_ok};
-ghost use Rattle.std.proofs.Common.{rules};
 ghost use Rattle.std.specs.Int.Count.{count_leading_zeros};
 ghost use Rattle.std.specs.Float.Ieee.{to_bits};
 ghost use Rattle.std.specs.Float.{binary64};
@@ -33,8 +32,6 @@ pub struct UnknownDirection;
 
 impl Refusal for UnknownDirection {
     ghost number = { refusal_of };
-
-    ghost counts = { Prim.search rules };
 
     fn number(self) -> u8 {
         11
