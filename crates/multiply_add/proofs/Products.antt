@@ -2,10 +2,9 @@
 use mathlib.Core.Path.{◌≡◌, refl, sym, ap, ap₂, ◌∙◌, subst}
 use mathlib.Core.Logic.{◌⊎◌, inl, inr}
 use Prim.Native.Nat.{ℕ, ◌+◌, ◌-◌, ◌*◌, ◌%◌, ◌^◌, ◌≤◌, ◌<◌}
-use native.Mathlib.Nat.{le_trans, le_of_eq, lt_of_lt_of_le, lt_of_le_of_lt, mul_comm, mul_assoc, mul_left_comm, add-zero, zero-mul, mul-pos, mul-mod_left, mul-le-mul, mul-le-mul_left, mul-le-mul_right, mul-lt-mul_of_pos_right, lt_of_mul-lt-mul_right}
+use native.Mathlib.Nat.{le_of_eq, lt_of_lt_of_le, lt_of_le_of_lt, mul_comm, mul_assoc, mul_left_comm, add-zero, zero-mul, mul-pos, mul-mod_left, mul-le-mul, mul-le-mul_left, mul-lt-mul_of_pos_right, lt_of_mul-lt-mul_right}
 use native.Mathlib.Omega.{arith}
 use mathlib.Core.Bool.{Bool}
-use lib.Dec.{lit≤}
 use lib.IntN.{pos}
 use lib.Pow.{pow-add, pow_pos}
 use lib.Ieee.{Float, nan, inf, fin, binary64, up, down, unlike, of_bits, to_bits}
@@ -131,15 +130,6 @@ product_ready a b w e =
     factor m n =
         let x : m * 1024 * (n * 2048) ≡ m * n * 1024 * 2048 = simp (mul_assoc, mul_comm, mul_left_comm) in
         omega arith
-
-pub addend_ready : (c : Parts) → Ready (c.m * 1024 * 2 ^ 64 + 0)
-addend_ready c =
-    subst (λ (x : ℕ). Ready x) (sym (add-zero (c.m * 1024 * 2 ^ 64)))
-    record {
-      low = le_trans (lit≤ tt) (mul-le-mul_right (2 ^ 64) (low10 c.m c.low));
-      high = mul-lt-mul_of_pos_right (high10 c.m c.high) (pow_pos 64);
-      tail = ap (λ (x : ℕ). x % 2 ^ 21) (sym (mul_assoc (c.m * 1024) (2 ^ 43) (2 ^ 21))) ∙ mul-mod_left (c.m * 1024 * 2 ^ 43) (2 ^ 21);
-    }
 
 -- the exponent of a product
 pub exponents : (a b : Parts) → a.e + b.e ≤ 4194

@@ -4,16 +4,12 @@ use Prim.Native.Nat.{ℕ, zero, suc, ◌+◌, ◌-◌, ◌*◌, ◌/◌, ◌%◌
 use native.Mathlib.Nat.{mod-eq_of_lt, mod-lt, one-mul, add-zero, div-eq_of_lt}
 use native.Mathlib.Numerals.{add-one}
 use native.Mathlib.Omega.{arith}
-use mathlib.Core.Bool.{Bool, true, false, cond}
+use mathlib.Core.Bool.{Bool, cond}
 use lib.Dec.{eqb}
 use lib.Arith.{digits_div}
 use lib.Pow.{pow-add, pow_pos, pow-lt}
 use lib.Ieee.{nearest}
 use borrow.Author.Tests.{ne_eqb}
-use Rattle.rounding.specs.declared.Direction.{Direction}
-use Rattle.rounding.specs.declared.Direction.TheVariants.{Nearest, TowardZero, Up, Down}
-use Rattle.rounding.specs.Rounding.{whole}
-use Rattle.rounding.specs.Machine.{increment}
 use Rattle.rounding.proofs.Place.{Compares, compares}
 
 -- 1 << k
@@ -28,26 +24,6 @@ double k h = ap (λ (x : ℕ). 2 ^ x) (back k h) ∙ pow-add 2 (k - 1) 1
   where
     back : (k : ℕ) → 1 ≤ k → k ≡ k - 1 + 1
     back k h = omega arith
-
-pub increment_lt : (d : Direction) (s : Bool) (odd k : ℕ) → 1 ≤ k → odd ≤ 1 → increment d s odd k < 2 ^ k
-increment_lt d s odd k K O = go d s (2 ^ (k - 1)) (2 ^ k) (double k K) (pow_pos (k - 1))
-  where
-    go : (d : Direction) (s : Bool) (h u : ℕ) → u ≡ h * 2 → 0 < h → increment d s odd k < 2 ^ k
-    go Nearest s h u e p = least (2 ^ (k - 1)) (2 ^ k) (double k K) (pow_pos (k - 1))
-      where
-        least : (h u : ℕ) → u ≡ h * 2 → 0 < h → h - 1 + odd < u
-        least h u e p = omega arith
-    go TowardZero s h u e p = pow_pos k
-    go Up true h u e p = pow_pos k
-    go Up false h u e p = before (2 ^ k) (pow_pos k)
-      where
-        before : (u : ℕ) → 0 < u → u - 1 < u
-        before u p = omega arith
-    go Down true h u e p = before (2 ^ k) (pow_pos k)
-      where
-        before : (u : ℕ) → 0 < u → u - 1 < u
-        before u p = omega arith
-    go Down false h u e p = pow_pos k
 
 -- the carry: x / u, for an x below 2 * u
 none : (q x u : ℕ) → x < u → q + x / u ≡ q
@@ -85,18 +61,3 @@ module _ (q r u : ℕ) (R : r < u) where
 
   to_floor : q ≡ q + (r + 0) / u
   to_floor = sym (none q (r + 0) u (omega arith))
-
--- the whole number is the whole part and the carry
-pub whole_carry : (d : Direction) (s : Bool) (m k : ℕ) → 1 ≤ k → m / 2 ^ k + (m % 2 ^ k + increment d s (m / 2 ^ k % 2) k) / 2 ^ k ≡ whole d s m (2 ^ k)
-whole_carry d s m k K = sym (go d s)
-  where
-    R : m % 2 ^ k < 2 ^ k
-    R = mod-lt m (pow_pos k)
-
-    go : (d : Direction) (s : Bool) → whole d s m (2 ^ k) ≡ m / 2 ^ k + (m % 2 ^ k + increment d s (m / 2 ^ k % 2) k) / 2 ^ k
-    go Nearest s = to_nearest_lem (m / 2 ^ k) (m % 2 ^ k) (2 ^ k) R (2 ^ (k - 1)) (double k K) (pow_pos (k - 1))
-    go TowardZero s = to_floor (m / 2 ^ k) (m % 2 ^ k) (2 ^ k) R
-    go Up true = to_floor (m / 2 ^ k) (m % 2 ^ k) (2 ^ k) R
-    go Up false = to_ceiling (m / 2 ^ k) (m % 2 ^ k) (2 ^ k) R
-    go Down true = to_ceiling (m / 2 ^ k) (m % 2 ^ k) (2 ^ k) R
-    go Down false = to_floor (m / 2 ^ k) (m % 2 ^ k) (2 ^ k) R

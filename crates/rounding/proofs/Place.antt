@@ -2,14 +2,13 @@
 -- the same, and a sticky bit keeps both at each coarser unit. Nothing here is about floats. Assumes nothing.
 use mathlib.Core.Path.{◌≡◌, refl, sym, ap, ap₂, ◌∙◌, subst}
 use mathlib.Core.Logic.{◌⊎◌, inl, inr}
-use Prim.Native.Nat.{ℕ, zero, suc, ◌+◌, ◌-◌, ◌*◌, ◌/◌, ◌%◌, ◌^◌, ◌≤◌, ◌<◌, compare, Ordering}
-use native.Mathlib.Nat.{le_refl, lt_of_lt_of_le, mul_comm, mul_assoc, mul_left_comm, mul_right_comm, add-mul, mul-le-mul_right, mul-lt-mul_of_pos_right, mul-pos, div-add-mod', mod-lt, zero-mul, one-mul, add-zero}
+use Prim.Native.Nat.{ℕ, zero, suc, ◌+◌, ◌-◌, ◌*◌, ◌/◌, ◌%◌, ◌≤◌, ◌<◌, compare, Ordering}
+use native.Mathlib.Nat.{le_refl, mul_comm, mul_assoc, mul_left_comm, mul_right_comm, add-mul, mul-le-mul_right, mul-lt-mul_of_pos_right, mul-pos, div-add-mod', mod-lt, zero-mul, one-mul, add-zero}
 use native.Mathlib.Numerals.{add-one}
 use native.Mathlib.Omega.{arith}
 use mathlib.Core.Bool.{Bool, true, false, not, cond}
 use lib.Dec.{T, is_le, compare_is_eq, eqb, leb→le, nleb→lt, eqb→eq, eqb_refl}
 use lib.Arith.{digits_div, digits_mod, lt_of_le-ne}
-use lib.Pow.{pow_pos, pow_mono, shr_lt}
 use lib.Ieee.{nearest}
 use borrow.Author.Tests.{eq-eqb, ne_eqb}
 use Rattle.wide.proofs.Nat.{next_mul}
@@ -201,13 +200,6 @@ whole_le d s q p = elim (near_whole d s q p) [
 
 pub whole_next : (d : Direction) (s : Bool) (n u : ℕ) → 0 < u → whole d s n u ≤ suc (n / u)
 whole_next d s n u U = subst (λ (x : ℕ). x ≤ suc (n / u)) (sym (whole_at_lem d s U (sits n u U))) (whole_le d s (n / u) (place (n % u) u))
-
--- the whole number of a word, shifted, fits in a word
-pub whole_bound : (d : Direction) (s : Bool) (m k : ℕ) → m < 2 ^ 64 → 1 ≤ k → whole d s m (2 ^ k) < 2 ^ 64
-whole_bound d s m k M K = small (whole d s m (2 ^ k)) (m / 2 ^ k) (whole_next d s m (2 ^ k) (pow_pos k)) (shr_lt 63 k (lt_of_lt_of_le M (pow_mono {i = 64} {j = 63 + k} (omega arith))))
-  where
-    small : (w q : ℕ) → w ≤ suc q → q < 2 ^ 63 → w < 2 ^ 64
-    small w q a b = omega arith
 
 -- ---- equal fractions
 
