@@ -1,14 +1,13 @@
 -- A number of m + n bytes is made of one of m and one of n. Assumes nothing.
-use Prim.Native.Nat.{ℕ, suc, ◌+◌, ◌-◌, ◌*◌, ◌/◌, ◌%◌, ◌^◌, ◌≤◌}
+use Prim.Native.Nat.{ℕ, suc, ◌+◌, ◌*◌, ◌/◌, ◌%◌, ◌^◌, ◌≤◌}
 use mathlib.Core.Path.{◌≡◌, refl, sym, ap, ◌∙◌}
 use mathlib.Core.List.{List, [], ◌∷◌, ◌++◌}
-use native.Mathlib.Nat.{pow-suc, add-mul, mul_assoc, mul_comm, mul_left_comm}
+use native.Mathlib.Nat.{add_assoc, pow-suc, add-mul, mul_assoc, mul_comm, mul_left_comm}
 use native.Mathlib.Numerals.{add-one}
 use native.Mathlib.Omega.{arith}
 use lib.ListN.{length, get_or, take, drop, length-drop}
 use lib.Seq.{drop-cons, take-add, drop-drop, length-take-le}
-use Rattle.std.specs.Int.{w16, w32, w64, from_be_bytes, to_be_bytes}
-use Rattle.words.proofs.Parts.{to_end}
+use Rattle.std.specs.Int.{w64, from_be_bytes, to_be_bytes}
 use Rattle.words.specs.Bytes.{number_after, number_at, word_bytes}
 
 pub after_append : (a : ℕ) (xs ys : List ℕ) → number_after a (xs ++ ys) ≡ number_after (number_after a xs) ys
@@ -44,27 +43,27 @@ pair s at h =
     drop-cons s at 0 (omega arith) ∙ ap (λ (l : List ℕ). get_or s at 0 ∷ l) (ap (λ (n : ℕ). drop n s) (sym (add-one at)) ∙ drop-cons s (at + 1) 0 (omega arith)) in
     rw e (omega arith)
 
+pub four : (s : List ℕ) (at : ℕ) → at + 4 ≤ length s
+    → get_or s at 0 * 16777216 + get_or s (at + 1) 0 * 65536 + get_or s (at + 2) 0 * 256 + get_or s (at + 3) 0 ≡ number_at 4 s at
+four s at h =
+    let high = pair s at (omega arith) in
+    let low : get_or s (at + 2) 0 * 256 + get_or s (at + 3) 0 ≡ number_at 2 s (at + 2) = simp add_assoc at (pair s (at + 2) (omega arith)) in
+    let both = join 2 2 s at (omega arith) in
+    omega (arith, high, low, both)
+
+pub eight : (s : List ℕ) (at : ℕ) → at + 8 ≤ length s
+    → get_or s at 0 * 72057594037927936 + get_or s (at + 1) 0 * 281474976710656 + get_or s (at + 2) 0 * 1099511627776 + get_or s (at + 3) 0 * 4294967296
+    + get_or s (at + 4) 0 * 16777216 + get_or s (at + 5) 0 * 65536 + get_or s (at + 6) 0 * 256 + get_or s (at + 7) 0 ≡ number_at 8 s at
+eight s at h =
+    let high = four s at (omega arith) in
+    let low = four s (at + 4) (omega arith) in
+    let e5 : get_or s (at + 4 + 1) 0 ≡ get_or s (at + 5) 0 = ap (λ (k : ℕ). get_or s k 0) (omega arith) in
+    let e6 : get_or s (at + 4 + 2) 0 ≡ get_or s (at + 6) 0 = ap (λ (k : ℕ). get_or s k 0) (omega arith) in
+    let e7 : get_or s (at + 4 + 3) 0 ≡ get_or s (at + 7) 0 = ap (λ (k : ℕ). get_or s k 0) (omega arith) in
+    let both = join 4 4 s at (omega arith) in
+    omega (arith, high, low, e5, e6, e7, both)
+
 -- ---- what the library reads and writes
-
--- the first n bytes of what comes from a place on
-pub front_at : (n at : ℕ) (p ys : List ℕ) → at + n ≤ length p → ys ≡ take n (take (length p - at) (drop at p)) → (ys ≡ take n (drop at p)) × (length ys ≡ n)
-front_at n at p ys h e =
-    let f = e ∙ ap (take n) (to_end at p) in
-    (f, ap length f ∙ length-take-le n (drop at p) (omega (arith, length-drop at p)))
-
-pub two_read : (bs : List ℕ) → length bs ≡ 2 → from_be_bytes w16 bs ≡ number_after 0 bs
-two_read [] l = absurd (omega arith)
-two_read (a ∷ []) l = absurd (omega arith)
-two_read (a ∷ b ∷ []) l = omega arith
-two_read (a ∷ b ∷ x ∷ bs) l = absurd (omega arith)
-
-pub four_read : (bs : List ℕ) → length bs ≡ 4 → from_be_bytes w32 bs ≡ number_after 0 bs
-four_read [] l = absurd (omega arith)
-four_read (a ∷ []) l = absurd (omega arith)
-four_read (a ∷ b ∷ []) l = absurd (omega arith)
-four_read (a ∷ b ∷ c ∷ []) l = absurd (omega arith)
-four_read (a ∷ b ∷ c ∷ d ∷ []) l = omega arith
-four_read (a ∷ b ∷ c ∷ d ∷ x ∷ bs) l = absurd (omega arith)
 
 pub eight_read : (bs : List ℕ) → length bs ≡ 8 → from_be_bytes w64 bs ≡ number_after 0 bs
 eight_read [] l = absurd (omega arith)

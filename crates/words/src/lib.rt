@@ -10,7 +10,7 @@ pub fn read_u16(bytes: &[u8], at: usize) -> u16
     requires { at + 2 ≤ length bytes.now }
     ensures { result ≡ number_at 2 bytes.now at }
 {
-    u16::from_be_bytes(*bytes[at..].first_chunk().unwrap())
+    u16::from_be_bytes([bytes[at], bytes[at + 1]])
 }
 
 // Four bytes from a place on.
@@ -18,7 +18,7 @@ pub fn read_u32(bytes: &[u8], at: usize) -> u32
     requires { at + 4 ≤ length bytes.now }
     ensures { result ≡ number_at 4 bytes.now at }
 {
-    u32::from_be_bytes(*bytes[at..].first_chunk().unwrap())
+    u32::from_be_bytes([bytes[at], bytes[at + 1], bytes[at + 2], bytes[at + 3]])
 }
 
 // Eight bytes from a place on.
@@ -26,7 +26,18 @@ pub fn read_u64(bytes: &[u8], at: usize) -> u64
     requires { at + 8 ≤ length bytes.now }
     ensures { result ≡ number_at 8 bytes.now at }
 {
-    u64::from_be_bytes(*bytes[at..].first_chunk().unwrap())
+    // The bytes one by one: first_chunk would test the length once more for each word.
+    let word = [
+        bytes[at],
+        bytes[at + 1],
+        bytes[at + 2],
+        bytes[at + 3],
+        bytes[at + 4],
+        bytes[at + 5],
+        bytes[at + 6],
+        bytes[at + 7],
+    ];
+    u64::from_be_bytes(word)
 }
 
 // Writes the eight bytes of x at the front.
