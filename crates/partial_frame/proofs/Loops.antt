@@ -19,7 +19,7 @@ use Rattle.frames.proofs.Refusals.{kept_bounds}
 use Rattle.partial_frame.specs.State.{length_in, filled, all_zero, is_left}
 use Rattle.partial_frame.specs.Steps.{after_byte, whole_in, lengths_left, further, advance}
 use Rattle.partial_frame.specs.declared.PartialFrame.{PartialFrame}
-use Rattle.partial_frame.specs.declared.Progress.{Progress}
+use Rattle.partial_frame.specs.Steps.{Progress}
 use Rattle.partial_frame.proofs.Held.{sized, resized}
 
 and_assoc : (s t u : Bool) → (s && t) && u ≡ s && (t && u)

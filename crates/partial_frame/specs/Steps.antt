@@ -4,7 +4,6 @@ use Rattle.std.specs.Prelude.{ℕ, zero, suc, ◌+◌, ◌≤◌, ◌<◌, List,
 use Rattle.frames.specs.Frame.{kept}
 use Rattle.partial_frame.specs.State.{length_in}
 use Rattle.partial_frame.specs.declared.PartialFrame.{PartialFrame}
-use Rattle.partial_frame.specs.declared.Progress.{Progress}
 
 unfoldable pub whole_in : PartialFrame → Bool
 whole_in s = leb (2 + length_in s) s.count
@@ -22,6 +21,14 @@ after_byte_at (suc (suc n)) s b =
 
 unfoldable pub after_byte : PartialFrame → ℕ → PartialFrame
 after_byte s b = after_byte_at s.count s b
+
+-- how far a piece got: the frame, and the bytes used
+pub record Progress : Type 0 where
+  pub frame : PartialFrame
+  pub used : ℕ
+
+abbrev pub progress : PartialFrame → ℕ → Progress
+progress s n = record { frame = s; used = n }
 
 -- n bytes more used
 abbrev pub further : ℕ → Progress → Progress

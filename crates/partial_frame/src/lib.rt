@@ -75,13 +75,6 @@ impl PartialFrame {
     }
 }
 
-// How far a piece got: the frame, and the bytes used.
-#[derive(Clone, Copy)]
-pub struct Progress {
-    pub frame: PartialFrame,
-    pub used: usize,
-}
-
 #[tactic(auto, unfolding(frames::specs::Frame::kept))]
 pub fn is_kept(n: usize) -> bool
     ensures { result ≡ kept n }

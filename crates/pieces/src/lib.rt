@@ -3,16 +3,15 @@
 #![tactic(auto)]
 
 ghost use Rattle.std.specs.Prelude.{◌≡◌, false, ◌≤◌, length};
-ghost use Rattle.partial_frame.specs.Steps.{whole_in, advance, Begun};
+ghost use Rattle.partial_frame.specs.Steps.{whole_in, progress, advance, Begun};
 
-use partial_frame::{PartialFrame, Progress, is_kept};
+use partial_frame::{PartialFrame, is_kept};
 
 // The length bytes that have not come.
-fn take_length(frame: PartialFrame, piece: &[u8]) -> Progress
-    requires { whole_in frame ≡ false }
-    ensures { Begun frame piece.now result }
+fn take_length(frame: &mut PartialFrame, piece: &[u8]) -> usize
+    requires { whole_in frame.old ≡ false }
+    ensures { Begun frame.old piece.now (progress frame.new result) }
 {
-    let mut frame = frame;
     let mut used = 0;
     for byte in piece {
         match frame.count {
@@ -23,15 +22,14 @@ fn take_length(frame: PartialFrame, piece: &[u8]) -> Progress
         frame.count += 1;
         used += 1;
     }
-    Progress { frame, used }
+    used
 }
 
 // The bytes of the body. One that is not kept is counted.
-fn take_body(frame: PartialFrame, piece: &[u8]) -> Progress
-    requires { (whole_in frame ≡ false) × (2 ≤ frame.count) }
-    ensures { (result ≡ advance frame piece.now) × (result.used ≤ length piece.now) }
+fn take_body(frame: &mut PartialFrame, piece: &[u8]) -> usize
+    requires { (whole_in frame.old ≡ false) × (2 ≤ frame.old.count) }
+    ensures { (progress frame.new result ≡ advance frame.old piece.now) × (result ≤ length piece.now) }
 {
-    let mut frame = frame;
     let length = frame.body_length();
     let at = frame.count - 2;
     let used = piece.len().min(length - at);
@@ -39,22 +37,18 @@ fn take_body(frame: PartialFrame, piece: &[u8]) -> Progress
         frame.body[at..at + used].copy_from_slice(&piece[..used]);
     }
     frame.count += used;
-    Progress { frame, used }
+    used
 }
 
-// Takes bytes off the piece's front, up to the end of the frame or of the piece.
-pub fn take_bytes(frame: PartialFrame, piece: &[u8]) -> Progress
-    requires { whole_in frame ≡ false }
-    ensures { result ≡ advance frame piece.now }
+// Takes bytes off the piece's front, up to the end of the frame or of the piece, and answers how many.
+pub fn take_bytes(frame: &mut PartialFrame, piece: &[u8]) -> usize
+    requires { whole_in frame.old ≡ false }
+    ensures { progress frame.new result ≡ advance frame.old piece.now }
 {
-    let begun = take_length(frame, piece);
-    let rest = &piece[begun.used..];
-    if rest.is_empty() || begun.frame.is_whole() {
-        return begun;
+    let used = take_length(frame, piece);
+    let rest = &piece[used..];
+    if rest.is_empty() || frame.is_whole() {
+        return used;
     }
-    let body = take_body(begun.frame, rest);
-    Progress {
-        frame: body.frame,
-        used: begun.used + body.used,
-    }
+    used + take_body(frame, rest)
 }

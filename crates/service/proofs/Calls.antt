@@ -1,6 +1,6 @@
 -- `take_of` and `close_of`, case by case, as the code comes to them: the steps over what is held are the moves of the book. Assumes nothing.
 use Prim.Native.Nat.{ℕ, zero, suc, ◌+◌, ◌≤◌}
-use mathlib.Core.Path.{◌≡◌, refl, sym, ap, subst, subst₂, ◌∙◌}
+use mathlib.Core.Path.{◌≡◌, refl, sym, ap, subst, ◌∙◌}
 use mathlib.Core.List.{List, [], ◌∷◌, ◌++◌}
 use mathlib.Core.Bool.{Bool, true, false, cond}
 use Rattle.std.specs.Prelude.{Result, Ok, Err}
@@ -14,9 +14,7 @@ use Rattle.partial_frame.specs.State.{frame_of, empty_frame, bytes_in, first_byt
 use Rattle.partial_frame.specs.Steps.{after_byte, whole_in, further, advance}
 use Rattle.counts.specs.Counts.{shown_next}
 use Rattle.memory.specs.Memory.{Memory, view_of, is_view, Sized, answer_with, remembered, answer_by, view_by, view_with}
-use Rattle.memory.specs.Answers.{Answers}
 use Rattle.memory.specs.declared.View.{View}
-use Rattle.memory.specs.declared.Answered.{Answered}
 use Rattle.memory.proofs.Memory.{view_after}
 use Rattle.service.specs.Whole.{Whole, body_in}
 use Rattle.service.specs.Book.{empty_book, emptied, state_with, state_of, Entry, Moved, Reply, move, one_more, closed_with, reply_of, is_small}
@@ -27,7 +25,7 @@ use Rattle.service.specs.declared.Refusal.{Refusal}
 use Rattle.service.specs.declared.Refusal.TheVariants.{SmallBuffer, BadState, Unfinished}
 use Rattle.service.specs.declared.Closed.{Closed}
 use Rattle.partial_frame.specs.declared.PartialFrame.{PartialFrame}
-use Rattle.partial_frame.specs.declared.Progress.{Progress}
+use Rattle.partial_frame.specs.Steps.{Progress}
 use Rattle.partial_frame.proofs.Places.{take_padded, and_true, length_places}
 use Rattle.frames.proofs.Refusals.{kept_bounds}
 use Rattle.answers.proofs.Answers.{answer_by-length}

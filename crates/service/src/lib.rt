@@ -16,7 +16,7 @@ ghost use Rattle.service.specs.Refusals.{number_of, checked};
 
 use frames::ANSWER_ROOM;
 use memory::{Answered, View};
-use partial_frame::{PartialFrame, Progress};
+use partial_frame::PartialFrame;
 
 // Why a call is refused, by the refusal's number: what its caller brings about, and the end of the stream inside a frame.
 #[derive(Clone, Copy, Debug, PartialEq, Eq)]
@@ -114,21 +114,20 @@ fn answer_whole(view: View, frame: &PartialFrame, answer: &mut [u8]) -> Answered
 }
 
 // take, where neither 6 nor 7 refuses it.
-fn take_good(state: State, piece: &[u8], answer: &mut [u8]) -> Taken
+fn take_good(mut state: State, piece: &[u8], answer: &mut [u8]) -> Taken
     requires { (state ≡ state_of (book_of state)) × (whole (book_of state).held ≡ false) × (answer_room ≤ length answer.old) }
     ensures { (result ≡ taken_of (take_of state piece.now answer.old)) × (answer.new ≡ (take_of state piece.now answer.old).buffer) }
 {
-    let State { frame, view } = state;
-    let Progress { frame, used } = pieces::take_bytes(frame, piece);
-    if !frame.is_whole() {
+    let used = pieces::take_bytes(&mut state.frame, piece);
+    if !state.frame.is_whole() {
         return Taken {
-            state: State { frame, view },
+            state,
             used,
             len: 0,
             refusal: 0,
         };
     }
-    let answered = answer_whole(view, &frame, answer);
+    let answered = answer_whole(state.view, &state.frame, answer);
     Taken {
         state: State::between(answered.view),
         used,

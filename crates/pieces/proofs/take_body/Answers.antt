@@ -5,7 +5,7 @@ use Rattle.frames.specs.Frame.{kept}
 use Rattle.frames.proofs.Refusals.{kept_bounds}
 use Rattle.partial_frame.specs.State.{length_in}
 use Rattle.partial_frame.specs.declared.PartialFrame.{PartialFrame}
-use Rattle.partial_frame.specs.declared.Progress.{Progress}
+use Rattle.partial_frame.specs.Steps.{Progress}
 use Rattle.partial_frame.proofs.Held.{resized}
 use Rattle.partial_frame.proofs.Loops.{short_count}
 use Rattle.partial_frame.proofs.Bodies.{taken_kept, taken_skipped}
@@ -21,17 +21,17 @@ copied : (s : PartialFrame) (n : ℕ) {k : ℕ} {b d : List ℕ} → k ≡ n →
 copied s n e f = λ i. record { frame = resized s (s.count + n) (put_mid (s.count - 2) (e i) s.body (f i)); used = n }
 
 pub overflow_sub-length : goal.overflow_sub-length
-overflow_sub-length c = omega (arith, short_count c.args.frame c.requires.0)
+overflow_sub-length c = omega (arith, short_count c.args.frame.now c.requires.0)
 
 pub slice_bounds-copy_from_slice-end : goal.slice_bounds-copy_from_slice-end
 slice_bounds-copy_from_slice-end c =
     let l = c.body_length-length.ensures.0 in
     let k = sym (ap kept l) ∙ sym c.is_kept.ensures ∙ c.if-is_kept.true in
-    omega (arith, c.min-used.ensures, l, short_count c.args.frame c.requires.0, (kept_bounds _ k).1)
+    omega (arith, c.min-used.ensures, l, short_count c.args.frame.now c.requires.0, (kept_bounds _ k).1)
 
 pub returns : goal.returns
 returns c =
-    let s = c.args.frame in
+    let s = c.args.frame.now in
     let p = c.args.piece.now in
     let n = c.min-used.result in
     let l = c.body_length-length.ensures.0 in

@@ -22,7 +22,7 @@ next e = ap (λ (f : PartialFrame). resized f (f.count + 1) f.body) e
 pub loop-byte-preserved : goal.loop-byte-preserved
 loop-byte-preserved c =
     let l = c.loop-byte in
-    let s = c.args.frame in
+    let s = c.args.frame.now in
     let p = c.args.piece.now in
     let i = l.invariant.counted in
     record {

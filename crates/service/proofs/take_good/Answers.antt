@@ -22,6 +22,6 @@ returns c =
     let b = c.take_bytes-used in
     let f = c.answer_whole-answered.ensures in
     let w = take_whole c.args.state c.requires.0 c.requires.1 c.args.piece.now c.args.answer.now c.requires.2 b.ensures (sym c.is_whole.ensures ∙ c.if-not-is_whole.false) in (
-      (λ j. record { state = (c.between.ensures ∙ ap (state_with empty_frame) f.view) j; used = b.result.used; len = f.written.len j; refusal = (c.number.ensures ∙ f.number) j }) ∙ sym (ap taken_of w),
+      (λ j. record { state = (c.between.ensures ∙ ap (state_with empty_frame) f.view) j; used = b.result; len = f.written.len j; refusal = (c.number.ensures ∙ f.number) j }) ∙ sym (ap taken_of w),
       f.written.buffer ∙ sym (ap (λ (r : Reply). r.buffer) w),
     )
