@@ -12,10 +12,6 @@ pub stopped_least : (n : ℕ) → n ≤ most → stopped n ≡ n
 unfolding stopped
 stopped_least n h = omega arith
 
-pub stopped_most : (n : ℕ) → most ≤ n → stopped n ≡ most
-unfolding stopped
-stopped_most n h = omega arith
-
 stopped_twice : (n : ℕ) → stopped (stopped n) ≡ stopped n
 unfolding stopped
 stopped_twice n = omega arith
@@ -102,9 +98,6 @@ next_accepted c e = rw e refl
 
 pub next_refused : {number : ℕ} (c : Counts) → (number ≡ 0 → ⊥) → is_refused number ≡ true → shown_next number c ≡ added 0 1 c
 next_refused {number} c z e = rw (ne_eqb number 0 z, e) refl
-
-pub next_other : {number : ℕ} (c : Counts) → (number ≡ 0 → ⊥) → is_refused number ≡ false → shown_next number c ≡ added 0 0 c
-next_other {number} c z e = rw (ne_eqb number 0 z, e) refl
 
 -- ---- what is shown, and the counts that it stands for
 

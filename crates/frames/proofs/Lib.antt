@@ -3,3 +3,4 @@ pub mod Contents
 pub mod Refusals
 pub mod Whole
 mod Examples
+pub mod Numbers

@@ -6,10 +6,9 @@ use mathlib.Core.Bool.{true}
 use native.Mathlib.Omega.{arith}
 use Rattle.std.specs.Prelude.{Result}
 use Rattle.frames.specs.Frame.{refusal_to}
-use Rattle.frames.specs.Numbers.{numbered, number_of}
+use Rattle.frames.specs.Numbers.{numbered}
 use Rattle.frames.specs.declared.Kind.{Kind}
 use Rattle.frames.specs.declared.Refusal.{Refusal}
-use Rattle.frames.specs.declared.Refusal.TheVariants.{TooShort, TooLong, BadVersion, BadKind, BadPayload, BadDirection, BadForm, BadNumber}
 use Rattle.frames.proofs.Refusals.{refusal_by}
 use Rattle.counts.specs.Counts.{is_accepted, is_refused, one_if, most, stopped, added, shown_next}
 use Rattle.counts.specs.declared.Counts.{Counts}
@@ -32,16 +31,6 @@ view_after f m = ap showing (shown_next_lem (answer_with (view_of m) f).number m
 -- the counts go on by the refusal
 pub view_by_lem : (v : View) (n : ℕ) (body : List ℕ) {k : ℕ} {c : Counts} → k ≡ refusal_to n body → c ≡ shown_next k v.counts → showing c ≡ view_by v n body
 view_by_lem v n body e c = ap showing (c ∙ ap (λ (m : ℕ). shown_next m v.counts) (e ∙ sym (answer_refusal v.counts n body)))
-
-pub some_number : (e : Refusal) → number_of e ≡ 0 → ⊥
-some_number TooShort z = absurd (omega arith)
-some_number TooLong z = absurd (omega arith)
-some_number BadVersion z = absurd (omega arith)
-some_number BadKind z = absurd (omega arith)
-some_number BadPayload z = absurd (omega arith)
-some_number BadDirection z = absurd (omega arith)
-some_number BadForm z = absurd (omega arith)
-some_number BadNumber z = absurd (omega arith)
 
 -- the answer is written, and what follows from its refusal
 pub responds : (v : View) (n : ℕ) (body : List ℕ) {o : Result Kind Refusal} {len : ℕ} {c : Counts} {before after : List ℕ} → numbered o ≡ refusal_to n body

@@ -18,12 +18,11 @@ use Rattle.memory.specs.declared.View.{View}
 use Rattle.memory.proofs.Memory.{view_after}
 use Rattle.service.specs.Whole.{Whole, body_in}
 use Rattle.service.specs.Book.{empty_book, emptied, state_with, state_of, Entry, Moved, Reply, move, one_more, closed_with, reply_of, is_small}
-use Rattle.service.specs.Service.{fresh_state, is_good, book_of, take_of, close_of, untouched, taken_of, closed_of}
+use Rattle.service.specs.Service.{fresh_state, is_good, book_of, take_of, close_of, untouched, taken_of}
 use Rattle.service.specs.declared.State.{State}
 use Rattle.service.specs.Refusals.{number_of, checked}
 use Rattle.service.specs.declared.Refusal.{Refusal}
 use Rattle.service.specs.declared.Refusal.TheVariants.{SmallBuffer, BadState, Unfinished}
-use Rattle.service.specs.declared.Closed.{Closed}
 use Rattle.partial_frame.specs.declared.PartialFrame.{PartialFrame}
 use Rattle.partial_frame.specs.Steps.{Progress}
 use Rattle.partial_frame.proofs.Places.{take_padded, and_true, length_places}
@@ -250,20 +249,6 @@ module _ (s : State) (shown : s ≡ state_of (book_of s)) (buffer : List ℕ) (e
       rw (e, r)
       (ap (λ (x : Entry). reply_of x buffer) (held_some s.frame.count s.frame (book_of s).memory z)
       ∙ ap (λ (x : State). record { used = 0; len = 4; number = 8; state = x; buffer = refusal_frame 8 ++ drop 4 buffer }) after)
-
--- a close writes four bytes at most
-closed_most : (h : List ℕ) (c : Memory) → length (closed_with h c).answer ≤ 4
-closed_most [] c = omega arith
-closed_most (b ∷ h) c = omega arith
-
-pub close_most : (s : State) (buffer : List ℕ) {r : Closed} → r ≡ closed_of (close_of s buffer) → r.len ≤ 4
-unfolding close_of
-close_most s buffer {r} q = rw (ap (λ (x : Closed). x.len) q) (go (is_small buffer) (is_good s) refl refl)
-  where
-    go : (t g : Bool) → is_small buffer ≡ t → is_good s ≡ g → (close_of s buffer).len ≤ 4
-    go true g e f = rw e (omega arith)
-    go false true e f = rw (e, f) (closed_most (book_of s).held (book_of s).memory)
-    go false false e f = rw (e, f) (omega arith)
 
 pub fresh_good : is_good fresh_state ≡ true
 fresh_good = ap is_good (sym fresh_whole) ∙ good_state empty_book whole_none

@@ -17,11 +17,11 @@ pub enum Line {
     Sum(u8, u8),
 }
 
-// Why a line is bad, by the refusal's number: it has neither form, or it names its own number or a greater one.
+// Why a line is bad: it has neither form, or it names its own number or a greater one.
 #[derive(Clone, Copy, Debug, PartialEq, Eq)]
 pub enum BadLine {
-    Form = 14,
-    Number = 15,
+    Form,
+    Number,
 }
 
 // Whether six bytes from a place on are zero.

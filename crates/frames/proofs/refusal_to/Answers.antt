@@ -8,21 +8,11 @@ use Rattle.frames.specs.Numbers.{kind_number, number_of, numbered}
 use Rattle.frames.specs.declared.Kind.{Kind}
 use Rattle.frames.specs.declared.Kind.TheVariants.{Scores, Fused, Directed, Report, Sheet}
 use Rattle.frames.specs.declared.Refusal.{Refusal}
-use Rattle.frames.specs.declared.Refusal.TheVariants.{TooShort, TooLong, BadVersion, BadKind, BadPayload, BadDirection, BadForm, BadNumber}
 use Rattle.frames.proofs.Items.{none_later, sheet_later}
 use Rattle.frames.proofs.Contents.{payload_contents}
 use Rattle.frames.proofs.Refusals.{too_short, too_long, body_length_lem, bad_version, bad_kind, own_refusal, bad_payload_lem, later_refusal}
+use Rattle.frames.proofs.Numbers.{some_number}
 use Rattle.frames.proofs.refusal_to.Goals as goal
-
-some_number : (refusal : Refusal) → number_of refusal ≡ 0 → ⊥
-some_number TooShort e = omega arith
-some_number TooLong e = omega arith
-some_number BadVersion e = omega arith
-some_number BadKind e = omega arith
-some_number BadPayload e = omega arith
-some_number BadDirection e = omega arith
-some_number BadForm e = omega arith
-some_number BadNumber e = omega arith
 
 some_kind : (kind : Kind) → is_kind (kind_number kind) ≡ true
 unfolding is_kind

@@ -4,7 +4,8 @@ use Rattle.frames.specs.Frame.{refusal_to}
 use Rattle.frames.specs.Numbers.{numbered, kind_number}
 use Rattle.counts.specs.Counts.{shown_next}
 use Rattle.answers.proofs.Answers.{answer_report, answer_items, written_as, refusal_written}
-use Rattle.memory.proofs.Memory.{responds, some_number}
+use Rattle.frames.proofs.Numbers.{some_number}
+use Rattle.memory.proofs.Memory.{responds}
 use Rattle.memory.proofs.respond.Goals as goal
 
 pub returns-in-Err : goal.returns-in-Err

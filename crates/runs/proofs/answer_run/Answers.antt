@@ -1,7 +1,7 @@
 -- `runs::answer_run` meets its contract: each turn is one whole frame more, refused, shown to what lasts, or accepted. Assumes nothing.
 use Rattle.std.proofs.Common.{sym, ap, ◌∙◌, arith, rules}
 use Rattle.frames.specs.Numbers.{numbered}
-use Rattle.memory.proofs.Memory.{some_number}
+use Rattle.frames.proofs.Numbers.{some_number}
 use Rattle.runs.proofs.Counting.{none_counted_lem, one_refused, one_accepted, one_shown}
 use Rattle.runs.proofs.answer_run.Goals as goal
 
