@@ -1,8 +1,8 @@
 -- The results of a payload's items: which they are, and where they stand. Assumes nothing.
-use Prim.Native.Nat.{ℕ, ◌+◌, ◌*◌, ◌-◌, ◌/◌, ◌≤◌}
+use Prim.Native.Nat.{ℕ, ◌+◌, ◌*◌, ◌-◌, ◌/◌, ◌≤◌, suc, ◌<◌}
 use mathlib.Core.Path.{◌≡◌, refl, sym, ap, ◌∙◌}
 use mathlib.Core.List.{List, ◌++◌}
-use native.Mathlib.Nat.{sub-zero}
+use native.Mathlib.Nat.{sub-zero, mul-le-mul_right, suc-mul}
 use native.Mathlib.Omega.{arith}
 use lib.ListN.{length, get_or, drop, length-drop}
 use borrow.Author.Tests.{eq-eqb, ne_eqb}
@@ -72,3 +72,7 @@ payload_items n b p {k} l e q c =
     let w : items_from kind + k * item_bytes kind ≤ n - 2 = rw c (items_within kind (n - 2) (good_items n b e)) in
     let f : 8 * k ≤ n - 2 = rw c (items_fit kind (n - 2)) in
     (omega arith, omega arith)
+
+-- the item at i ends within the items
+pub item_within : (from i n size : ℕ) {len : ℕ} → i < n → from + n * size ≤ len → from + i * size + size ≤ len
+item_within from i n size {len} h l = let m : suc i * size ≤ n * size = mul-le-mul_right size h in omega (arith, suc-mul i size)

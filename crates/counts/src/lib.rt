@@ -32,18 +32,21 @@ fn is_refused(number: u8) -> bool
     matches!(number, 1 | 2 | 3 | 4 | 5 | 11 | 14 | 15)
 }
 
+#[tactic(auto, unfolding(crate::specs::Counts::stopped))]
+fn sum(m: u64, n: u64) -> u64
+    ensures { result ≡ stopped (m + n) }
+{
+    m.saturating_add(n)
+}
+
 // So many accepted and refused frames more.
-#[tactic(auto, using(crate::proofs::Shown::sum_more), unfolding(crate::specs::Counts::stopped))]
 pub fn add(counts: Counts, accepted: u64, refused: u64) -> Counts
     ensures { result ≡ added accepted refused counts }
 {
     Counts {
-        accepted: counts.accepted.saturating_add(accepted),
-        refused: counts.refused.saturating_add(refused),
-        total: counts
-            .total
-            .saturating_add(accepted)
-            .saturating_add(refused),
+        accepted: sum(counts.accepted, accepted),
+        refused: sum(counts.refused, refused),
+        total: sum(sum(counts.total, accepted), refused),
     }
 }
 
@@ -59,11 +62,11 @@ pub fn counted(counts: Counts, number: u8) -> Counts
 }
 
 // Whether the total is the sum of the other two, stopped.
-#[tactic(auto, unfolding(crate::specs::Counts::is_sum, crate::specs::Counts::stopped))]
+#[tactic(auto, unfolding(crate::specs::Counts::is_sum))]
 pub fn is_sum(counts: Counts) -> bool
     ensures { result ≡ is_sum counts }
 {
-    counts.total == counts.accepted.saturating_add(counts.refused)
+    counts.total == sum(counts.accepted, counts.refused)
 }
 
 // Writes the three numbers at the front, 8 bytes each.

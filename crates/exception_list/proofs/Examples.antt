@@ -8,8 +8,11 @@ use Rattle.pair.specs.Pair.{bits}
 use Rattle.exceptions.specs.declared.Entry.{Entry}
 use Rattle.exceptions.specs.declared.Stretch.TheVariants.{First}
 use Rattle.exceptions.specs.Table.{exceptions}
-use Rattle.exceptions.specs.Lookup.{entry_at, entries_from, entries}
+use Rattle.exceptions.specs.Lookup.{entry_at, entries_from, entries, reply_of, nth}
 use Rattle.exception_list.specs.List.{is_good, all_good, ascending, refusal_of}
+use Rattle.exception_list.specs.Search.{searched}
+use Rattle.std.specs.Prelude.{Some, None}
+use mathlib.Core.Path.{◌≡◌, refl}
 
 abbrev entry : ℕ → ℕ → ℕ → Entry
 entry x hi lo = record { x = bits x; hi = bits hi; lo = bits lo }
@@ -67,3 +70,15 @@ cases =
 pub refusals : T (all_right cases)
 unfolding cases all_right refusal_of all_good ascending is_good entries entries_from entry_at exceptions of_bits eq lt
 refusals = tt
+
+-- 4, 2, 1, 3: of these the search by halves comes upon 1 first, and then upon 3
+abbrev disordered : List Entry
+disordered = of 0x4010000000000000 ∷ of 0x4000000000000000 ∷ of 0x3ff0000000000000 ∷ of 0x4008000000000000 ∷ []
+
+pub halves :
+    (searched 4 disordered 0 4 (bits 0x3ff0000000000000) ≡ Some (reply_of (of 0x3ff0000000000000)))
+    × (searched 4 disordered 0 4 (bits 0x4008000000000000) ≡ Some (reply_of (of 0x4008000000000000)))
+    × (searched 4 disordered 0 4 (bits 0x4000000000000000) ≡ None)
+    × (searched 4 disordered 0 4 (bits 0x4010000000000000) ≡ None)
+unfolding searched of_bits eq lt
+halves = (refl, refl, refl, refl)

@@ -3,5 +3,6 @@ pub mod Finite
 pub mod Checked
 pub mod Rises
 pub mod Searched
+pub mod Halves
 pub mod Settled
 mod Examples

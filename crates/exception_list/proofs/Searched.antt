@@ -14,10 +14,8 @@ use Rattle.exceptions.proofs.Halving as halving
 use Rattle.exceptions.proofs.Halving.{Rising}
 use Rattle.exceptions.proofs.Scan.{scan}
 use Rattle.exception_list.specs.List.{refusal_of}
+use Rattle.exception_list.specs.Search.{middle}
 use Rattle.exception_list.proofs.Rises.{rising}
-
-abbrev middle : ℕ → ℕ → ℕ
-middle first past = first + (past - first) / 2
 
 part : (list : List Entry) (first past : ℕ) → past ≤ length list → refusal_of list ≡ 0 → Rising (nth list) first past
 part list first past k good =

@@ -1,12 +1,13 @@
 // A lent list of exceptional cases (request A.4): its check, and the lookup of a weight in one that is good.
 //
-// The definitions are those of specs/List.antt: what a list is refused by, and in what order. proofs/ has the laws by which the two walk
-// over the slice.
+// The definitions are those of specs/List.antt: what a list is refused by, and in what order; specs/Search.antt says what the lookup comes to
+// in any list. proofs/ has the laws by which the two walk over the slice.
 #![tactic(auto)]
 
-ghost use Rattle.std.specs.Prelude.{◌≡◌, ◌≤◌, ◌-◌, length};
+ghost use Rattle.std.specs.Prelude.{ℕ, ◌≡◌, ◌≤◌, ◌-◌, length};
 ghost use Rattle.exceptions.specs.Lookup.{find, nth, entries_from};
 ghost use Rattle.exception_list.specs.List.{is_good, may_follow, refusal_of, number_of, refused};
+ghost use Rattle.exception_list.specs.Search.{searched};
 
 use exceptions::Entry;
 use reply::Refusal;
@@ -66,9 +67,10 @@ pub fn check(list: &[Entry]) -> Result<(), ListError>
     Ok(())
 }
 
-// The reply of the entry whose x equals the given one, in a good list.
+// The reply of the entry whose x equals the given one, in a good list; in any other, what the search by halves comes upon.
 pub fn lookup(list: &[Entry], x: f64) -> Option<f64>
-    ensures { refusal_of list.now ≡ 0 → result ≡ find list.now x }
+    ensures good { refusal_of list.now ≡ 0 → result ≡ find list.now x }
+    ensures any { result ≡ searched (length list.now) list.now 0 (length list.now) x }
 {
     lookup_entry(list, 0, list.len(), x)
 }
@@ -76,7 +78,8 @@ pub fn lookup(list: &[Entry], x: f64) -> Option<f64>
 // The reply for x from the entries first to past - 1 of the list.
 fn lookup_entry(list: &[Entry], first: usize, past: usize, x: f64) -> Option<f64>
     requires { past ≤ length list.now }
-    ensures { refusal_of list.now ≡ 0 → result ≡ find (entries_from (nth list.now) first (past - first)) x }
+    ensures good { refusal_of list.now ≡ 0 → result ≡ find (entries_from (nth list.now) first (past - first)) x }
+    ensures any { (k : ℕ) → past - first ≤ k → result ≡ searched k list.now first past x }
 {
     if first >= past {
         return None;

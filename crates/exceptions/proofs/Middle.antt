@@ -2,14 +2,14 @@
 use mathlib.Core.Path.{◌≡◌, ap, ◌∙◌, subst}
 use mathlib.Core.Bool.{true, false}
 use mathlib.Core.List.{List}
-use Prim.Native.Nat.{ℕ, ◌+◌, ◌-◌, ◌*◌, ◌/◌, ◌<◌}
+use Prim.Native.Nat.{ℕ, ◌+◌, ◌-◌, ◌*◌, ◌/◌, ◌<◌, ◌≤◌}
 use native.Mathlib.Omega.{arith}
 use lib.ListN.{get_or}
 use lib.Ieee.{Float, nan, binary64, add, eq, lt}
 use Rattle.exceptions.specs.Table.{exceptions}
 use Rattle.std.specs.Prelude.{Option, Some}
 use Rattle.exceptions.specs.Lookup.{entry_at, Part}
-use Rattle.exceptions.proofs.Ascent.{ascending}
+use Rattle.exceptions.proofs.Ascent.{ascending, end_le}
 use Rattle.exceptions.proofs.Scan.{scan}
 use Rattle.exceptions.proofs.Halving as halving
 use Rattle.exceptions.proofs.Halving.{Rising}
@@ -46,3 +46,9 @@ module _ (table : List Float) (E : table ≡ exceptions) (first past : ℕ) (x :
       ∙ halving.right_at entry_at first past (rising S) x (middle first past) (omega arith) (omega arith)
       (subst (λ (t : List Float). eq x (get_or t (middle first past * 3) nan) ≡ false) E d)
       (subst (λ (t : List Float). lt x (get_or t (middle first past * 3) nan) ≡ false) E e)
+
+pub narrow : {first past : ℕ} (first' past' : ℕ) → first ≤ first' → past' ≤ past → Part first past → Part first' past'
+narrow first' past' p q S = let a = S.from in let b = S.upto in record { of = S.of; from = omega arith; upto = omega arith }
+
+pub part_end : {first past : ℕ} → Part first past → past ≤ 208
+part_end S = let a = S.upto in let b = end_le S.of in omega arith

@@ -2,14 +2,14 @@
 -- that a sticky bit does no harm: a shift of at most 21 digits is exact, and from 22 on nothing cancels. Assumes nothing.
 use mathlib.Core.Path.{◌≡◌, refl, sym, ap, ap₂, ◌∙◌, subst}
 use mathlib.Core.Logic.{◌≢◌, ◌⊎◌, inl, inr, ⊎_elim}
-use Prim.Native.Nat.{ℕ, ◌+◌, ◌-◌, ◌*◌, ◌/◌, ◌%◌, ◌^◌, ◌≤◌, ◌<◌}
-use native.Mathlib.Nat.{le_refl, le_trans, le_of_eq, le_of_lt, lt_of_lt_of_le, lt_of_le_of_lt, le_antisymm, add_comm, add-zero, mul-one, mul_assoc, add-mul, mul-le-mul_left, mul-lt-mul_of_pos_right, lt_of_mul-lt-mul_right, eq_of_mul-eq-mul_right, add-le-add, div-add-mod'}
+use Prim.Native.Nat.{ℕ, ◌+◌, ◌-◌, ◌*◌, ◌/◌, ◌%◌, ◌^◌, ◌≤◌, ◌<◌, suc}
+use native.Mathlib.Nat.{le_refl, le_trans, le_of_eq, le_of_lt, lt_of_lt_of_le, lt_of_le_of_lt, le_antisymm, add_comm, add-zero, mul-one, mul_assoc, add-mul, mul-le-mul_left, mul-lt-mul_of_pos_right, lt_of_mul-lt-mul_right, eq_of_mul-eq-mul_right, add-le-add, div-add-mod', mod-eq_of_lt, mul-le-mul_right, suc-mul, sub-le, add-mod_left}
 use native.Mathlib.Omega.{arith}
 use mathlib.Core.Bool.{Bool, true, false, cond, true≢false}
 use lib.IntN.{pos}
-use lib.Dec.{ltb, lit≤}
+use lib.Dec.{ltb, lit≤, leb}
 use lib.Pow.{pow-add, pow_pos, pow_mono}
-use borrow.Author.Tests.{lt-ltb, le-ltb, ltb-true, ltb-false}
+use borrow.Author.Tests.{lt-ltb, le-ltb, ltb-true, ltb-false, le-leb, lt-leb}
 use lib.Ieee.{fin, binary64, to_bits}
 use Rattle.operands.specs.declared.Signed.{Signed}
 use Rattle.wide.specs.Words.{value, jammed}
@@ -22,6 +22,7 @@ use Rattle.ieee754.specs.Operations.{sum_to, zero_sign}
 use Rattle.operands.specs.Machine.{Summands, Addends, Ready, SumOf, RoundsSum}
 use Rattle.operands.proofs.Reading.{zero_bits, stands_just}
 use Rattle.operands.proofs.Signs.{beq_same, beq_other}
+use lib.Arith.{digits_lt}
 
 -- ---- `sum_to` by its cases
 
@@ -246,3 +247,51 @@ module _ (p q : Signed) (pe qe : ℕ) where
       → r ≡ to_bits binary64 (sum_to d p.neg A q.neg B c)
   align_answer d true z r A B c e P Q ez C a b f = f B A c (aligned B A c (value q.size) qe (value p.size) pe z Q P (exponent_pick true e) ez C b a) ∙ ap (to_bits binary64) (sum_comm d q.neg p.neg B A c)
   align_answer d false z r A B c e P Q ez C a b f = f A B c (aligned A B c (value p.size) pe (value q.size) qe z P Q (exponent_pick false e) ez C a b)
+
+pub sub_fits : (x y w : ℕ) → w < 2 ^ 128 → x < 2 ^ 128 → (w + y) % 2 ^ 128 ≡ x → y ≤ x → w ≡ x - y
+sub_fits x y w W X e h = go (2 ^ 128) W X e
+  where
+    back : (w y x : ℕ) → w + y ≡ x → w ≡ x - y
+    back w y x e = omega arith
+
+    over : (w y x N : ℕ) → w < N → x < N → y ≤ x → w + y < N + N
+    over w y x N a b c = omega arith
+
+    carry : (w y x N : ℕ) → w < N → y ≤ x → x < N → w + y - N ≡ x → N ≤ w + y → ⊥
+    carry w y x N a b c d f = omega arith
+
+    rest : (w y x N : ℕ) → w < N → x < N → y ≤ x → w + y - N < N
+    rest w y x N a b c = omega arith
+
+    split : (n N : ℕ) → N ≤ n → n ≡ N + (n - N)
+    split n N h = omega arith
+
+    go : (N : ℕ) → w < N → x < N → (w + y) % N ≡ x → w ≡ x - y
+    go N W X e = ⊎_elim
+        (λ (l : N ≤ w + y). absurd (carry w y x N W h X (sym (ap (λ (z : ℕ). z % N) (split (w + y) N l) ∙ add-mod_left N (w + y - N) ∙ mod-eq_of_lt (rest w y x N W X h)) ∙ e) l))
+        (λ (l : w + y < N). back w y x (sym (mod-eq_of_lt l) ∙ e))
+        (le_or_gt N (w + y))
+
+-- the highest bit of x - y modulo 2 ^ 128, where both are below 2 ^ 127
+high_below : (h l b k x : ℕ) → h * b + l ≤ x → x < k * b → h < k
+high_below h l b k x p q = lt_of_mul-lt-mul_right b (omega arith)
+
+high_above : (h l b k y x : ℕ) → l < b → y < k * b → x < y → (h * b + l + y) % (k * b + k * b) ≡ x → k ≤ h
+high_above h l b k y x L Y X e = told (le_or_gt k h)
+  where
+    told : (k ≤ h) ⊎ (h < k) → k ≤ h
+    told (inl p) = p
+    told (inr p) =
+        let m : suc h * b ≤ k * b = mul-le-mul_right b p in
+        let n = suc-mul h b in
+        let f : h * b + l + y < k * b + k * b = omega arith in
+        absurd (omega (arith, sym (mod-eq_of_lt f) ∙ e))
+
+pub sub_sign : (x y h l : ℕ) → x < 2 ^ 127 → y < 2 ^ 127 → h < 2 ^ 64 → l < 2 ^ 64 → (h * 2 ^ 64 + l + y) % 2 ^ 128 ≡ x → leb (2 ^ 63) h ≡ ltb x y
+sub_sign x y h l X Y H L e = told (ltb x y) refl
+  where
+    told : (b : Bool) → ltb x y ≡ b → leb (2 ^ 63) h ≡ b
+    told true f = le-leb (2 ^ 63) h (high_above h l (2 ^ 64) (2 ^ 63) y x L Y (ltb-true x y f) e)
+    told false f =
+        let v = sub_fits x y (h * 2 ^ 64 + l) (digits_lt H L) (lt_of_lt_of_le X (pow_mono {i = 127} {j = 128} (omega arith))) e (ltb-false x y f) in
+        lt-leb (2 ^ 63) h (high_below h l (2 ^ 64) (2 ^ 63) (x - y) (le_of_eq v) (lt_of_le_of_lt (sub-le x y) X))

@@ -4,13 +4,16 @@ use Prim.Native.Nat.{ℕ, zero, suc, ◌+◌, ◌-◌, ◌*◌, ◌/◌, ◌%◌
 use native.Mathlib.Nat.{mod-eq_of_lt, mod-lt, one-mul, add-zero, div-eq_of_lt}
 use native.Mathlib.Numerals.{add-one}
 use native.Mathlib.Omega.{arith}
-use mathlib.Core.Bool.{Bool, cond}
+use mathlib.Core.Bool.{Bool, cond, true, false}
 use lib.Dec.{eqb}
 use lib.Arith.{digits_div}
 use lib.Pow.{pow-add, pow_pos, pow-lt}
 use lib.Ieee.{nearest}
 use borrow.Author.Tests.{ne_eqb}
 use Rattle.rounding.proofs.Place.{Compares, compares}
+use Rattle.rounding.specs.declared.Direction.{Direction}
+use Rattle.rounding.specs.declared.Direction.TheVariants.{Nearest, TowardZero, Up, Down}
+use Rattle.rounding.specs.Machine.{increment}
 
 -- 1 << k
 pub one_shl : (k : ℕ) → k ≤ 63 → 1 * 2 ^ k % 2 ^ 64 ≡ 2 ^ k
@@ -61,3 +64,23 @@ module _ (q r u : ℕ) (R : r < u) where
 
   to_floor : q ≡ q + (r + 0) / u
   to_floor = sym (none q (r + 0) u (omega arith))
+
+pub increment_lt : (d : Direction) (s : Bool) (odd k : ℕ) → 1 ≤ k → odd ≤ 1 → increment d s odd k < 2 ^ k
+increment_lt d s odd k K O = go d s (2 ^ (k - 1)) (2 ^ k) (double k K) (pow_pos (k - 1))
+  where
+    go : (d : Direction) (s : Bool) (h u : ℕ) → u ≡ h * 2 → 0 < h → increment d s odd k < 2 ^ k
+    go Nearest s h u e p = least (2 ^ (k - 1)) (2 ^ k) (double k K) (pow_pos (k - 1))
+      where
+        least : (h u : ℕ) → u ≡ h * 2 → 0 < h → h - 1 + odd < u
+        least h u e p = omega arith
+    go TowardZero s h u e p = pow_pos k
+    go Up true h u e p = pow_pos k
+    go Up false h u e p = before (2 ^ k) (pow_pos k)
+      where
+        before : (u : ℕ) → 0 < u → u - 1 < u
+        before u p = omega arith
+    go Down true h u e p = before (2 ^ k) (pow_pos k)
+      where
+        before : (u : ℕ) → 0 < u → u - 1 < u
+        before u p = omega arith
+    go Down false h u e p = pow_pos k

@@ -3,7 +3,7 @@
 use mathlib.Core.Path.{◌≡◌, refl, sym, ap, ◌∙◌, subst}
 use mathlib.Core.Logic.{◌⊎◌, inl, inr, ⊎_elim}
 use Prim.Native.Nat.{ℕ, ◌+◌, ◌-◌, ◌*◌, ◌/◌, ◌^◌, ◌≤◌, ◌<◌}
-use native.Mathlib.Nat.{le_refl, le_trans, le_of_eq, lt_of_lt_of_le, lt_of_not-le, not-le_of_lt, eq-or-lt_of_le, mul-one, mul-le-mul_right, mul-lt-mul_of_pos_right, mul-div_cancel, add_assoc, div-one}
+use native.Mathlib.Nat.{le_refl, le_trans, le_of_eq, lt_of_lt_of_le, lt_of_not-le, not-le_of_lt, eq-or-lt_of_le, mul-one, mul-le-mul_right, mul-lt-mul_of_pos_right, mul-div_cancel, add_assoc, div-one, le_of_lt}
 use native.Mathlib.Omega.{arith}
 use mathlib.Core.Bool.{Bool, true, false, cond}
 use lib.Dec.{ltb, lit<}
@@ -17,7 +17,7 @@ use Rattle.wide.proofs.Nat.{le_or_gt}
 use Rattle.rounding.specs.declared.Direction.{Direction}
 use Rattle.rounding.specs.declared.Direction.TheVariants.{Nearest, TowardZero, Up, Down}
 use Rattle.rounding.specs.Rounding.{overflow, bounded}
-use Rattle.rounding.specs.Machine.{sign_bit, overflow_bits, packed}
+use Rattle.rounding.specs.Machine.{sign_bit, overflow_bits, packed, bounded_bits}
 
 -- ---- the largest patterns
 
@@ -178,3 +178,17 @@ units_bits d s q k K = go (le_or_gt 0x7ff0000000000000 (k * 0x10000000000000 + q
         ap (λ (b : Bool). to_bits binary64 (bounded d binary64 (cond b (odd 54 s q k 1074) (inf s)))) (le-ltb (q * 2 ^ k) (2 ^ 2098) (from_infinity q k K l))
         ∙ overflow_bits_lem d s
         ∙ sym (ap (λ (b : Bool). sign_bit s + cond b (k * 0x10000000000000 + q) (overflow_bits d s)) (le-ltb (k * 0x10000000000000 + q) 0x7ff0000000000000 l))
+
+overflow_le : (d : Direction) (s : Bool) {x : ℕ} → x ≡ overflow_bits d s → x ≤ 0x7ff0000000000000
+overflow_le Nearest s e = omega arith
+overflow_le TowardZero s e = omega arith
+overflow_le Up true e = omega arith
+overflow_le Up false e = omega arith
+overflow_le Down true e = omega arith
+overflow_le Down false e = omega arith
+
+pub bounded_le : (d : Direction) (s : Bool) (b : ℕ) {x : ℕ} → x ≡ bounded_bits d s b → x ≤ 0x7ff0000000000000
+bounded_le d s b {x} e = ⊎_elim
+    (λ h. overflow_le d s (e ∙ ap (λ (t : Bool). cond t b (overflow_bits d s)) (le-ltb b 0x7ff0000000000000 h)))
+    (λ h. le_of_lt (subst (λ (y : ℕ). y < 0x7ff0000000000000) (sym (e ∙ ap (λ (t : Bool). cond t b (overflow_bits d s)) (lt-ltb b 0x7ff0000000000000 h))) h))
+    (le_or_gt 0x7ff0000000000000 b)

@@ -87,3 +87,8 @@ module _ {v₀ v : View} {piece out₀ out : List ℕ} {used len : ℕ} (s : Ans
               put_behind len (length answer) out out₀ s.answers answer w (sym s.len) s.buffer ew.written.buffer
               ∙ ap (λ (k : ℕ). (s.answers ++ answer) ++ drop (len + k) out₀) (sym ew.written.len);
         }
+
+pub body_length_lem : (piece : List ℕ) (used n : ℕ) → used + 2 + n ≤ length piece → length (body_at piece used n) ≡ n
+body_length_lem piece used n h =
+    let k : used + 2 + n - (used + 2) ≡ n = omega arith in
+    rw k (length-take-le n (drop (used + 2) piece) (omega (arith, length-drop (used + 2) piece)))

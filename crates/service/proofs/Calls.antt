@@ -18,7 +18,7 @@ use Rattle.memory.specs.declared.View.{View}
 use Rattle.memory.proofs.Memory.{view_after}
 use Rattle.service.specs.Whole.{Whole, body_in}
 use Rattle.service.specs.Book.{empty_book, emptied, state_with, state_of, Entry, Moved, Reply, move, one_more, closed_with, reply_of, is_small}
-use Rattle.service.specs.Service.{fresh_state, is_good, book_of, take_of, close_of, untouched, taken_of}
+use Rattle.service.specs.Service.{fresh_state, is_good, book_of, take_of, close_of, untouched, taken_of, closed_of}
 use Rattle.service.specs.declared.State.{State}
 use Rattle.service.specs.Refusals.{number_of, checked}
 use Rattle.service.specs.declared.Refusal.{Refusal}
@@ -32,6 +32,7 @@ use Rattle.partial_frame.proofs.Held.{byte_held, whole_held, not_past, empty_hel
 use Rattle.partial_frame.proofs.Reach.{reach_sound, filled_held}
 use Rattle.service.proofs.Memory.{view_shown}
 use Rattle.service.proofs.Simulation.{move_whole, move_on, fresh_whole, whole_none, good_state}
+use Rattle.service.specs.declared.Closed.{Closed}
 
 -- the machine from the state of h is the book from h
 abbrev shown_progress : Moved → Progress
@@ -252,3 +253,17 @@ module _ (s : State) (shown : s ≡ state_of (book_of s)) (buffer : List ℕ) (e
 
 pub fresh_good : is_good fresh_state ≡ true
 fresh_good = ap is_good (sym fresh_whole) ∙ good_state empty_book whole_none
+
+-- a close writes four bytes at most
+closed_most : (h : List ℕ) (c : Memory) → length (closed_with h c).answer ≤ 4
+closed_most [] c = omega arith
+closed_most (b ∷ h) c = omega arith
+
+pub close_most : (s : State) (buffer : List ℕ) {r : Closed} → r ≡ closed_of (close_of s buffer) → r.len ≤ 4
+unfolding close_of
+close_most s buffer {r} q = rw (ap (λ (x : Closed). x.len) q) (go (is_small buffer) (is_good s) refl refl)
+  where
+    go : (t g : Bool) → is_small buffer ≡ t → is_good s ≡ g → (close_of s buffer).len ≤ 4
+    go true g e f = rw e (omega arith)
+    go false true e f = rw (e, f) (closed_most (book_of s).held (book_of s).memory)
+    go false false e f = rw (e, f) (omega arith)

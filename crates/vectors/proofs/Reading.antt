@@ -36,3 +36,7 @@ next_below n i d h s =
 -- after fewer than 16 digits it fits a word
 pub next_fits : (n i d : ℕ) → n < 16 ^ i → i < 16 → d < 16 → n * 16 + d < 2 ^ 64
 next_fits n i d h l s = lt_of_lt_of_le (next_below n i d h s) (let f : i + 1 ≤ 16 = omega arith in pow-le-pow_right (zero-lt-suc 15) f)
+
+-- a number of up to 16 digits fits a word
+pub fits_word : (n i : ℕ) → n < 16 ^ i → i ≤ 16 → n < 18446744073709551616
+fits_word n i h l = lt_of_lt_of_le h (pow-le-pow_right (zero-lt-suc 15) l)

@@ -1,11 +1,13 @@
 // Test vectors as text: a line for each, the operation's name and then hexadecimal numbers, with one space before each.
 //
 // A program over it gives the function that finds a line's answer, and has every line run, and the failures and the count printed. The
-// contract of hex says which number a text is (specs/Hexadecimal.antt); the others promise that they are safe and end.
+// contract of hex says which number a text is (specs/Hexadecimal.antt), and those of next and run that a text is run to its end, with no more
+// failures than lines (specs/Text.antt); the others promise that they are safe and end.
 #![tactic(auto)]
 
-ghost use Rattle.std.specs.Prelude.{◌≡◌, ◌≤◌, length};
+ghost use Rattle.std.specs.Prelude.{◌≡◌, ◌≤◌, ◌<◌, length};
 ghost use Rattle.vectors.specs.Hexadecimal.{number_of, digit_in};
+ghost use Rattle.vectors.specs.Text.{Reached};
 
 use std::io::Read;
 
@@ -14,6 +16,14 @@ use std::io::Read;
 pub struct Answer {
     pub got: u64,
     pub want: u64,
+}
+
+// How far a text has been run: where its next line starts, how many lines there were, and how many failed.
+#[derive(Clone, Copy)]
+pub struct Progress {
+    pub at: usize,
+    pub lines: u64,
+    pub failures: u64,
 }
 
 // Room for the whole text.
@@ -46,6 +56,24 @@ fn read_full<R: Read>(input: &mut R, space: &mut [u8]) -> usize
         }
     }
     len
+}
+
+// Where the line that starts at `from` ends.
+fn line_end(text: &[u8], from: usize) -> usize
+    requires { from ≤ length text.now }
+    ensures { (from ≤ result) × (result ≤ length text.now) }
+{
+    match text[from..].iter().position(|b| *b == b'\n') {
+        Some(i) => from + i,
+        None => text.len(),
+    }
+}
+
+// The line that starts at `from`.
+pub fn line(text: &[u8], from: usize) -> &[u8]
+    requires { from ≤ length text.now }
+{
+    &text[from..line_end(text, from)]
 }
 
 // The value of a hexadecimal digit.
@@ -113,26 +141,63 @@ fn passes<P: Print>(rt: &P, number: u64, line: &[u8], answer: Option<Answer>) ->
     false
 }
 
-// Runs the vectors of the input: a line for each failure, and then the count.
-pub fn run<P: Print, R: Read, F: Fn(&[u8]) -> Option<Answer>>(rt: &P, input: &mut R, answer: F)
-    requires { F.IsAlwaysCallable answer }
+// Nothing has been run.
+pub fn start() -> Progress
+    ensures { (result.at ≡ 0) × (result.lines ≡ 0) × (result.failures ≡ 0) }
 {
-    let mut space = space();
-    run_text(rt, read_text(rt, input, &mut space), answer);
+    Progress {
+        at: 0,
+        lines: 0,
+        failures: 0,
+    }
 }
 
-// The same for a text that was read.
-fn run_text<P: Print, F: Fn(&[u8]) -> Option<Answer>>(rt: &P, text: &[u8], answer: F)
-    requires { F.IsAlwaysCallable answer }
+// The progress past the next line, whose answer is given; a failure is printed.
+pub fn next<P: Print>(rt: &P, text: &[u8], progress: Progress, answer: Option<Answer>) -> Progress
+    requires { Reached progress text.now × (progress.at < length text.now) }
+    ensures { Reached result text.now × (progress.at < result.at) }
 {
-    let mut lines = 0u64;
-    let mut failures = 0u64;
-    for line in text.split_inclusive(|b| *b == b'\n') {
-        let line = line.strip_suffix(b"\n").unwrap_or(line);
-        lines = lines.saturating_add(1);
-        if !passes(rt, lines, line, answer(line)) {
-            failures = failures.saturating_add(1);
-        }
+    let end = line_end(text, progress.at);
+    let lines = progress.lines + 1;
+    let passed = passes(rt, lines, &text[progress.at..end], answer);
+    Progress {
+        at: text.len().min(end + 1),
+        lines,
+        failures: progress.failures + u64::from(!passed),
     }
+}
+
+// Prints how many vectors there were and how many failed.
+pub fn print_count<P: Print>(rt: &P, progress: Progress) {
+    let lines = progress.lines;
+    let failures = progress.failures;
     let _ = println!(rt; "{lines} vectors, {failures} failures");
+}
+
+// Runs the vectors of the input: a line for each failure, and then the count, which it answers too.
+pub fn run<P: Print, R: Read, F: Fn(&[u8]) -> Option<Answer>>(
+    rt: &P,
+    input: &mut R,
+    answer: F,
+) -> Progress
+    requires { F.IsAlwaysCallable answer }
+    ensures { (result.at ≤ 1048576) × (result.lines ≤ result.at) × (result.failures ≤ result.lines) }
+{
+    let mut space = space();
+    let progress = run_text(rt, read_text(rt, input, &mut space), answer);
+    print_count(rt, progress);
+    progress
+}
+
+// Runs a text to its end.
+fn run_text<P: Print, F: Fn(&[u8]) -> Option<Answer>>(rt: &P, text: &[u8], answer: F) -> Progress
+    requires { F.IsAlwaysCallable answer }
+    ensures { Reached result text.now × (result.at ≡ length text.now) }
+{
+    let mut progress = start();
+    while progress.at < text.len() {
+        let answer = answer(line(text, progress.at));
+        progress = next(rt, text, progress, answer);
+    }
+    progress
 }

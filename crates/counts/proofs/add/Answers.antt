@@ -5,9 +5,7 @@ use Rattle.counts.proofs.Shown.{sum_more}
 use Rattle.counts.proofs.add.Goals as goal
 
 pub returns : goal.returns
-unfolding stopped
 returns c =
     let a = c.args in
-    let h = c.saturating_add.ensures in
-    let total = c.saturating_add-4.ensures ∙ ap (λ (n : ℕ). stopped (n + a.refused)) c.saturating_add-3.ensures ∙ sum_more a.counts.total a.accepted a.refused in
-    λ i. record { accepted = c.saturating_add.ensures i; refused = c.saturating_add-2.ensures i; total = total i }
+    let total = c.sum-4.ensures ∙ ap (λ (n : ℕ). stopped (n + a.refused)) c.sum-3.ensures ∙ sum_more a.counts.total a.accepted a.refused in
+    λ i. record { accepted = c.sum.ensures i; refused = c.sum-2.ensures i; total = total i }

@@ -30,4 +30,4 @@ pub returns : goal.returns
 returns c =
     let good = c.in_ok-check.ensures in
     let list = c.args.list.now in
-    scored list c.args.x good (c.score_found.ensures list (c.lookup-found.ensures (sym good) ∙ ap (find list) c.from_bits.ensures))
+    scored list c.args.x good (c.score_found.ensures list (c.lookup-found.ensures.good (sym good) ∙ ap (find list) c.from_bits.ensures))

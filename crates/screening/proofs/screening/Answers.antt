@@ -1,8 +1,8 @@
 -- `screening::screening` meets its contract. Assumes nothing.
 use Rattle.std.proofs.Common.{◌≡◌, refl, sym, ap, ◌∙◌, ℕ, ◌/◌, ◌%◌, List, Bool, true, false, length, arith, Ok, Err}
-use Rattle.std.specs.Prelude.{position}
+use Rattle.std.specs.Prelude.{position, Option}
 use borrow.Author.Tests.{eq-eqb, ne_eqb, eqb-true, eqb-false}
-use Rattle.screening.specs.Screening.{bad_weights, screened}
+use Rattle.screening.specs.Screening.{bad_weights, first_nan, screened}
 use Rattle.screening.specs.Chunks.{is_missing}
 use Rattle.screening.proofs.Chunks.{chunks}
 use Rattle.screening.proofs.screening.Goals as goal
@@ -36,9 +36,13 @@ returns-then-is_empty c =
           refused p (more_behind p (λ z. eqb-false _ _ (sym w.is_empty-else-is_empty.ensures ∙ w.if-not-is_empty.true) (c.as_chunks.ensures.back_len ∙ z)))
     ]
 
-pub returns : goal.returns
+answered : (p : List ℕ) {r : Option ℕ} → (length p / 8 ≡ 0 → ⊥) → length p % 8 ≡ 0 → r ≡ first_nan p 0 (length p / 8) → Ok r ≡ screened p
 unfolding screened
+answered p n e h = ap Ok h ∙ sym (rw (all_whole p n e) refl)
+
+pub returns : goal.returns
 returns c =
-    let p = c.args.payload.now in
-    let good = all_whole p (λ z. eqb-false _ _ (sym c.if-is_empty.ensures) (c.as_chunks.ensures.front_len ∙ z)) (sym c.as_chunks.ensures.back_len ∙ eqb-true _ _ (sym c.is_empty-else-is_empty.ensures ∙ c.if-not-is_empty.false)) in
-    ap Ok (c.first_missing.ensures ∙ ap (position is_missing) c.as_chunks.ensures.front ∙ chunks p) ∙ sym (rw good refl)
+    answered c.args.payload.now
+    (λ z. eqb-false _ _ (sym c.if-is_empty.ensures) (c.as_chunks.ensures.front_len ∙ z))
+    (sym c.as_chunks.ensures.back_len ∙ eqb-true _ _ (sym c.is_empty-else-is_empty.ensures ∙ c.if-not-is_empty.false))
+    (c.first_missing.ensures ∙ ap (position is_missing) c.as_chunks.ensures.front ∙ chunks c.args.payload.now)
