@@ -7,7 +7,8 @@ use Rattle.exceptions.specs.Lookup.{reply_of, nth}
 abbrev pub middle : ℕ → ℕ → ℕ
 middle first past = first + (past - first) / 2
 
--- what k looks find among the entries first to past - 1: the middle one's reply, or what lies on its side of x. Of fewer than k entries none is left
+-- what k looks at most find among the entries first to past - 1: the middle one's reply, or what the others find on the side of x. As many looks as
+-- there are entries are enough
 unfoldable pub searched : ℕ → List Entry → ℕ → ℕ → Float → Option Float
 searched zero list first past x = None
 searched (suc k) list first past x =

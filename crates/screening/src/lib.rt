@@ -25,7 +25,7 @@ const TWICE_INFINITY: u64 = 0xffe0000000000000;
 // Its first four bytes.
 const HIGH_INFINITY: u32 = 0xffe00000;
 
-// Most weights are told by their first four bytes: it makes the loop over them short, so that its speed does not hang on where it lies in memory.
+// Most weights are told by their first four bytes: the loop over them is short, and its worst place in memory costs less.
 fn is_nan(weight: &[u8; 8]) -> bool
     ensures { result ≡ is_missing weight.now }
 {
