@@ -1,8 +1,8 @@
 // Test vectors as text: a line for each, the operation's name and then hexadecimal numbers, with one space before each.
 //
 // A program over it gives the function that finds a line's answer, and has every line run, and the failures and the count printed. The
-// contract of hex says which number a text is (specs/Hexadecimal.antt), and those of next and run_text that a text is run to its end, with no
-// more failures than lines (specs/Text.antt); the others promise that they are safe and end.
+// contract of hex says which number a text is (specs/Hexadecimal.antt), and those of next and run_text how far they come in a text, and that
+// there are no more failures than lines (specs/Text.antt); the others promise that they are safe and end.
 #![tactic(auto)]
 
 ghost use Rattle.std.specs.Prelude.{◌≡◌, ◌≤◌, ◌<◌, length};
